@@ -1,0 +1,149 @@
+// The Internet checksum of RFC 1071 and its update of RFC 1624.
+//
+// A Fold is what 16-bit addition with end-around carry gives of some bytes, and a Field is its complement, which
+// packets carry: two types, so that neither is stored where the other belongs. Every public function takes any
+// input, and its promise is one equation.
+mod pieces;
+
+pub use pieces::chain;
+use verdicts::Verdict;
+ghost use mathlib.Core.Path.{_≡_};
+ghost use Prim.Native.Nat.{_+_, _≤_, _<_};
+ghost use lib.ListN.{length};
+ghost use Rattle.sums.specs.Total.{weigh, total};
+ghost use Rattle.sums.specs.Fold.{fold, fieldOf};
+ghost use Rattle.sums.specs.Fold.{passes as Fold·passes};
+ghost use Rattle.sums.specs.Partials.{partialOf, joined, swapIf};
+ghost use Rattle.sums.specs.Update.{updated};
+ghost use Rattle.sums.specs.Left.{Left, pairAt};
+
+pub struct Fold(pub u16);
+
+pub struct Field(pub u16);
+
+// A fold, and whether the length of what was summed is odd.
+pub struct Partial {
+    pub fold: Fold,
+    pub odd: bool,
+}
+
+// The verdict on a chain, good or place, and its partial sum: (0, even) beside a refusal.
+pub struct Chained {
+    pub verdict: Verdict,
+    pub sum: Partial,
+}
+
+// The fold of a total.
+pub fn fold_of(t: u64) -> Fold
+    ensures { λ r. ⌜ r .0 ≡ fold t ⌝ }
+{
+    if t == 0 {
+        return Fold(0);
+    }
+    Fold(((t - 1) % 65535 + 1) as u16)
+}
+
+// The field of a fold.
+pub fn field_of(f: Fold) -> Field
+    ensures { λ r. ⌜ r .0 ≡ fieldOf (f .0) ⌝ }
+{
+    Field(65535 - f.0)
+}
+
+// Whether a block with its field in place, whose fold is f, passes.
+pub fn passes(f: Fold) -> bool
+    ensures { λ r. ⌜ r ≡ Fold·passes (f .0) ⌝ }
+{
+    f.0 == 65535
+}
+
+// The field after the old bytes' fold gave way to the new bytes' (RFC 1624, equation 3).
+pub fn update(field: Field, old: Fold, new: Fold) -> Field
+    ensures { λ r. ⌜ r .0 ≡ updated (field .0) (old .0) (new .0) ⌝ }
+{
+    let t = (65535 - field.0) as u64 + (65535 - old.0) as u64 + new.0 as u64;
+    field_of(fold_of(t))
+}
+
+// The partial sum of A's bytes followed by B's.
+pub fn join(a: Partial, b: Partial) -> Partial
+    ensures { λ r. ⌜ r ≡ joined a b ⌝ }
+{
+    let x = a.fold.0 as u64;
+    let y = aligned(a.odd, b.fold.0) as u64;
+    Partial {
+        fold: fold_of(x + y),
+        odd: a.odd != b.odd,
+    }
+}
+
+// The partial sum of some bytes, any number of them.
+pub fn sum(bytes: &[u8]) -> Partial
+    ensures { λ r. ⌜ r ≡ partialOf (now (bytes .entry)) ⌝ }
+{
+    let mut acc: u64 = 0;
+    let mut i: usize = 0;
+    while i + 1 < bytes.len() {
+        acc = carry(acc, pair(bytes, i));
+        i += 2;
+    }
+    last(bytes, i, acc)
+}
+
+// The fold of a stretch, each byte counted by its position in a block: odd says whether it starts at an odd one.
+pub fn fold_at(bytes: &[u8], odd: bool) -> Fold
+    ensures { λ r. ⌜ r .0 ≡ fold (weigh odd (now (bytes .entry))) ⌝ }
+{
+    let s = sum(bytes);
+    Fold(aligned(odd, s.fold.0))
+}
+
+// A fold, with its two bytes exchanged if what it is added to is odd.
+fn aligned(odd: bool, f: u16) -> u16
+    ensures { λ r. ⌜ r ≡ swapIf odd f ⌝ }
+{
+    if odd { f % 256 * 256 + f / 256 } else { f }
+}
+
+// a + b with the carry added in again, so that the fold is the same and no sum grows too large.
+fn carry(a: u64, b: u64) -> u64
+    ensures { λ r. ⌜ fold r ≡ fold (a + b) ⌝ }
+{
+    if a <= 18446744073709551615 - b {
+        a + b
+    } else {
+        a - (18446744073709551615 - b)
+    }
+}
+
+fn wide(x: u8) -> u64
+    ensures { λ r. ⌜ (r ≡ x) × (r ≤ 255) ⌝ }
+{
+    x as u64
+}
+
+// The word at i.
+fn pair(s: &[u8], i: usize) -> u64
+    requires { ⌜ i + 1 < length (now s) ⌝ }
+    ensures { λ r. ⌜ (r ≡ pairAt (now (s .entry)) i) × (r ≤ 65535) ⌝ }
+{
+    256 * wide(s[i]) + wide(s[i + 1])
+}
+
+// What is left where no two bytes are.
+fn last(bytes: &[u8], i: usize, acc: u64) -> Partial
+    requires { ⌜ (length (now bytes) ≤ i + 1) × Left (now bytes) acc i ⌝ }
+    ensures { λ r. ⌜ r ≡ partialOf (now (bytes .entry)) ⌝ }
+{
+    if i < bytes.len() {
+        Partial {
+            fold: fold_of(carry(acc, 256 * wide(bytes[i]))),
+            odd: true,
+        }
+    } else {
+        Partial {
+            fold: fold_of(acc),
+            odd: false,
+        }
+    }
+}
