@@ -1,0 +1,269 @@
+//! Safe calls to `libhifrostum.a`, which judges, mends and edits the checksums of IP packets.
+//!
+//! Each function is the C function of the same name with slices for pointers and lengths, and a
+//! [`Verdict`] for its number. A slice is never too short, and what one call writes is borrowed by it
+//! alone, so nothing of what `hifrostum.h` asks of a C caller is left to ask here. A packet begins at
+//! its IP header; bytes past its declared end are a tail, neither judged nor changed. A refused call
+//! changes no byte.
+//!
+//! ```no_run
+//! # let mut packet = [0u8; 20];
+//! use hifrostum::{judge, lower_lifetime, Verdict};
+//! match judge(&packet) {
+//!     Verdict::Good | Verdict::Unsummed => println!("{}", lower_lifetime(&mut packet)),
+//!     refused => println!("dropped: {refused}"),
+//! }
+//! ```
+#![warn(missing_docs)]
+
+use std::{error, fmt};
+
+mod c {
+    extern "C" {
+        pub fn hifrostum_judge(packet: *const u8, len: usize) -> u8;
+        pub fn hifrostum_mend(packet: *mut u8, len: usize) -> u8;
+        pub fn hifrostum_lower_lifetime(packet: *mut u8, len: usize) -> u8;
+        pub fn hifrostum_set_address(
+            packet: *mut u8,
+            len: usize,
+            side: u32,
+            address: *const u8,
+            address_len: usize,
+        ) -> u8;
+        pub fn hifrostum_set_stretch(
+            packet: *mut u8,
+            len: usize,
+            place: usize,
+            bytes: *const u8,
+            bytes_len: usize,
+        ) -> u8;
+        pub fn hifrostum_judge_capture(
+            capture: *const u8,
+            len: usize,
+            verdicts: *mut u8,
+            verdicts_len: usize,
+            count: *mut usize,
+        ) -> u8;
+        pub fn hifrostum_sum_chain(
+            buffer: *const u8,
+            len: usize,
+            pieces: *const u32,
+            pieces_len: usize,
+            fold: *mut u16,
+            odd: *mut u8,
+        ) -> u8;
+        pub fn hifrostum_field(bytes: *const u8, len: usize) -> u16;
+        pub fn hifrostum_update(field: u16, old_fold: u16, new_fold: u16) -> u16;
+    }
+}
+
+/// What a call answers. Every verdict but `Good` and `Unsummed` is a refusal.
+#[must_use]
+#[repr(u8)]
+#[derive(Clone, Copy, Debug, PartialEq, Eq, Hash)]
+pub enum Verdict {
+    /// All sums in use pass, or the call was done.
+    Good = 0,
+    /// The IPv4 header passes, the UDP field is 0000.
+    Unsummed = 1,
+    /// No bytes, or fewer than a header has or than declared.
+    Cut = 2,
+    /// The version is not 4 or 6.
+    Version = 3,
+    /// A length contradicts another.
+    Shape = 4,
+    /// The IPv4 header doesn't pass.
+    HeaderSum = 5,
+    /// More fragments follow, or the fragment offset is not 0.
+    Fragment = 6,
+    /// A protocol that the library doesn't know in this family.
+    Uncovered = 7,
+    /// UDP over IPv6 with the field 0000.
+    Missing = 8,
+    /// The message doesn't pass.
+    MessageSum = 9,
+    /// A piece, stretch or address doesn't fit.
+    Place = 10,
+    /// The lifetime is 0 or 1.
+    Spent = 11,
+    /// An ICMP message that is, or would be, all zeros.
+    Blank = 12,
+    /// A capture without the mark "GLR".
+    Mark = 13,
+    /// A capture of another version than 1.
+    Edition = 14,
+    /// A capture with a damaged record.
+    Record = 15,
+    /// More records than places for verdicts.
+    Room = 16,
+}
+
+/// Each verdict with its name, at its own number.
+const VERDICTS: [(Verdict, &str); 17] = [
+    (Verdict::Good, "good"),
+    (Verdict::Unsummed, "unsummed"),
+    (Verdict::Cut, "cut"),
+    (Verdict::Version, "version"),
+    (Verdict::Shape, "shape"),
+    (Verdict::HeaderSum, "header sum"),
+    (Verdict::Fragment, "fragment"),
+    (Verdict::Uncovered, "uncovered"),
+    (Verdict::Missing, "missing"),
+    (Verdict::MessageSum, "message sum"),
+    (Verdict::Place, "place"),
+    (Verdict::Spent, "spent"),
+    (Verdict::Blank, "blank"),
+    (Verdict::Mark, "mark"),
+    (Verdict::Edition, "edition"),
+    (Verdict::Record, "record"),
+    (Verdict::Room, "room"),
+];
+
+impl Verdict {
+    /// The verdict of a number, if it is one: for what [`judge_capture`] wrote.
+    pub fn from_number(number: u8) -> Option<Verdict> {
+        VERDICTS.get(usize::from(number)).map(|entry| entry.0)
+    }
+
+    /// The number that C sees.
+    pub fn number(self) -> u8 {
+        self as u8
+    }
+
+    /// Whether the call was refused: every verdict but `Good` and `Unsummed`.
+    pub fn is_refusal(self) -> bool {
+        self.number() > Verdict::Unsummed.number()
+    }
+
+    /// What the library answered, which is always a verdict's number.
+    fn answered(number: u8) -> Verdict {
+        VERDICTS[usize::from(number)].0
+    }
+}
+
+impl fmt::Display for Verdict {
+    fn fmt(&self, to: &mut fmt::Formatter<'_>) -> fmt::Result {
+        to.write_str(VERDICTS[usize::from(self.number())].1)
+    }
+}
+
+impl error::Error for Verdict {}
+
+/// Which address of a packet.
+#[derive(Clone, Copy, Debug, PartialEq, Eq, Hash)]
+pub enum Side {
+    /// Where it comes from.
+    Source = 0,
+    /// Where it goes.
+    Destination = 1,
+}
+
+/// A folded sum. Its complement is a [`Field`], and the two are never exchanged.
+#[derive(Clone, Copy, Debug, PartialEq, Eq, Hash)]
+pub struct Fold(pub u16);
+
+/// A checksum field as a number: in a packet its high byte comes first.
+#[derive(Clone, Copy, Debug, PartialEq, Eq, Hash)]
+pub struct Field(pub u16);
+
+/// The sum of a byte string, and whether its length is odd.
+#[derive(Clone, Copy, Debug, PartialEq, Eq, Hash)]
+pub struct Partial {
+    /// The folded sum.
+    pub fold: Fold,
+    /// Whether the string's length is odd.
+    pub odd: bool,
+}
+
+/// The verdict on a packet. Changes nothing.
+pub fn judge(packet: &[u8]) -> Verdict {
+    Verdict::answered(unsafe { c::hifrostum_judge(packet.as_ptr(), packet.len()) })
+}
+
+/// Sets the IPv4 header field and the message field to their fresh values. It makes any content look
+/// right: mend what you built, never what you received.
+pub fn mend(packet: &mut [u8]) -> Verdict {
+    Verdict::answered(unsafe { c::hifrostum_mend(packet.as_mut_ptr(), packet.len()) })
+}
+
+/// Lowers the lifetime by one and updates the IPv4 header field; `Spent` if it is 0 or 1.
+/// A damaged packet stays damaged: an edit updates and never mends. This holds of all three edits.
+pub fn lower_lifetime(packet: &mut [u8]) -> Verdict {
+    Verdict::answered(unsafe { c::hifrostum_lower_lifetime(packet.as_mut_ptr(), packet.len()) })
+}
+
+/// Writes a new address and updates the fields that cover it; `Place` unless it has 4 bytes (IPv4) or
+/// 16 (IPv6).
+pub fn set_address(packet: &mut [u8], side: Side, address: &[u8]) -> Verdict {
+    let (to, len) = (packet.as_mut_ptr(), packet.len());
+    Verdict::answered(unsafe {
+        c::hifrostum_set_address(to, len, side as u32, address.as_ptr(), address.len())
+    })
+}
+
+/// Writes new bytes into the body from a place on and updates the message field; `Place` if they
+/// don't fit, `Blank` for an ICMP message that is all zeros before or after.
+pub fn set_stretch(packet: &mut [u8], place: usize, bytes: &[u8]) -> Verdict {
+    let (to, len) = (packet.as_mut_ptr(), packet.len());
+    Verdict::answered(unsafe {
+        c::hifrostum_set_stretch(to, len, place, bytes.as_ptr(), bytes.len())
+    })
+}
+
+/// Judges each record of a capture, writes one verdict number a record, in order, and answers the
+/// number of records. Later bytes of `verdicts` stay. Refuses with `Mark`, `Edition`, `Record`, `Room`.
+pub fn judge_capture(capture: &[u8], verdicts: &mut [u8]) -> Result<usize, Verdict> {
+    let mut count = 0;
+    let number = unsafe {
+        c::hifrostum_judge_capture(
+            capture.as_ptr(),
+            capture.len(),
+            verdicts.as_mut_ptr(),
+            verdicts.len(),
+            &mut count,
+        )
+    };
+    done(number, count)
+}
+
+/// The partial sum of pieces of a buffer, joined in list order. The list holds offset, length, offset,
+/// length; pieces may be empty, overlap or repeat. Refuses with `Place` a list of odd length or a piece
+/// that passes the buffer's end.
+pub fn sum_chain(buffer: &[u8], pieces: &[u32]) -> Result<Partial, Verdict> {
+    let (mut fold, mut odd) = (0, 0);
+    let number = unsafe {
+        c::hifrostum_sum_chain(
+            buffer.as_ptr(),
+            buffer.len(),
+            pieces.as_ptr(),
+            pieces.len(),
+            &mut fold,
+            &mut odd,
+        )
+    };
+    done(
+        number,
+        Partial {
+            fold: Fold(fold),
+            odd: odd != 0,
+        },
+    )
+}
+
+/// The field of a byte string.
+pub fn field(bytes: &[u8]) -> Field {
+    Field(unsafe { c::hifrostum_field(bytes.as_ptr(), bytes.len()) })
+}
+
+/// The field after what it covers changed from one fold to another, by equation 3 of RFC 1624.
+pub fn update(field: Field, old: Fold, new: Fold) -> Field {
+    Field(unsafe { c::hifrostum_update(field.0, old.0, new.0) })
+}
+
+/// An answer, unless the call was refused.
+fn done<A>(number: u8, answer: A) -> Result<A, Verdict> {
+    match Verdict::answered(number) {
+        Verdict::Good => Ok(answer),
+        refused => Err(refused),
+    }
+}

@@ -1,0 +1,126 @@
+//! The rules paper's examples, and each refusal that the wrapper turns into an error, through the archive.
+use hifrostum::*;
+
+const UDP: [u8; 30] = [
+    0x45, 0, 0, 0x1E, 0, 0, 0x40, 0, 0x40, 0x11, 0xB8, 0xB6, 0xC0, 0xA8, 0, 1, 0xC0, 0xA8, 0, 0xC7,
+    0x13, 0x88, 0x13, 0x89, 0, 0x0A, 0x0E, 0x47, 0x48, 0x69,
+];
+const CAPTURE: [u8; 37] = [
+    0x47, 0x4C, 0x52, 0, 1, 0, 0, 0, 0x1C, 0x45, 0, 0, 0x1C, 0, 0, 0, 0, 0x40, 1, 0x66, 0xDF, 0x0A,
+    0, 0, 1, 0x0A, 0, 0, 2, 8, 0, 0xF7, 0xFD, 0, 1, 0, 1,
+];
+
+#[test]
+fn verdicts_have_their_numbers_and_names() {
+    for number in 0..=16 {
+        let verdict = Verdict::from_number(number).unwrap();
+        assert_eq!(verdict.number(), number);
+        assert_eq!(verdict.is_refusal(), number > 1);
+    }
+    assert_eq!(Verdict::from_number(17), None);
+    assert_eq!(Verdict::Good.to_string(), "good");
+    assert_eq!(Verdict::MessageSum.to_string(), "message sum");
+    assert_eq!(Verdict::Room.to_string(), "room");
+}
+
+#[test]
+fn sums() {
+    assert_eq!(field(&[]), Field(0xFFFF));
+    assert_eq!(field(&[0xFF, 0xFF]), Field(0));
+    assert_eq!(field(&[0xAB]), Field(0x54FF));
+    assert_eq!(update(Field(0xDD2F), Fold(0x5555), Fold(0x3285)), Field(0));
+    let words = [0, 1, 0xF2, 3, 0xF4, 0xF5, 0xF6, 0xF7];
+    assert_eq!(
+        sum_chain(&words, &[0, 3, 3, 5]),
+        Ok(Partial {
+            fold: Fold(0xDDF2),
+            odd: false
+        })
+    );
+    assert_eq!(
+        sum_chain(&words, &[0, 3]),
+        Ok(Partial {
+            fold: Fold(0xF201),
+            odd: true
+        })
+    );
+    assert_eq!(
+        sum_chain(&[], &[]),
+        Ok(Partial {
+            fold: Fold(0),
+            odd: false
+        })
+    );
+    assert_eq!(sum_chain(&words, &[0, 3, 3]), Err(Verdict::Place));
+    assert_eq!(sum_chain(&words, &[u32::MAX, 1]), Err(Verdict::Place));
+}
+
+#[test]
+fn judging_and_mending() {
+    assert_eq!(judge(&[]), Verdict::Cut);
+    assert_eq!(judge(&UDP), Verdict::Good);
+    let mut packet = UDP;
+    packet[29] ^= 1;
+    assert_eq!(judge(&packet), Verdict::MessageSum);
+    packet[8] -= 1;
+    assert_eq!(judge(&packet), Verdict::HeaderSum);
+    packet[29] ^= 1;
+    packet[8] += 1;
+    packet[10..12].fill(0);
+    packet[26..28].fill(1);
+    assert_eq!(mend(&mut packet), Verdict::Good);
+    assert_eq!(packet, UDP);
+    assert_eq!(mend(&mut packet[..29]), Verdict::Cut);
+    assert_eq!(mend(&mut []), Verdict::Cut);
+}
+
+#[test]
+fn edits() {
+    let mut packet = UDP;
+    assert_eq!(lower_lifetime(&mut packet), Verdict::Good);
+    assert_eq!(packet[8], 0x3F);
+    assert_eq!(packet[10..12], [0xB9, 0xB6]);
+    assert_eq!(
+        set_address(&mut packet, Side::Destination, &[10, 0, 0, 9]),
+        Verdict::Good
+    );
+    assert_eq!(
+        set_address(&mut packet, Side::Source, &[10, 0, 0, 8]),
+        Verdict::Good
+    );
+    assert_eq!(packet[12..20], [10, 0, 0, 8, 10, 0, 0, 9]);
+    assert_eq!(set_stretch(&mut packet, 1, b"o"), Verdict::Good);
+    assert_eq!(packet[28..], *b"Ho");
+    assert_eq!(judge(&packet), Verdict::Good);
+    let was = packet;
+    assert_eq!(
+        set_address(&mut packet, Side::Source, &[0; 16]),
+        Verdict::Place
+    );
+    assert_eq!(set_stretch(&mut packet, 2, b"x"), Verdict::Place);
+    assert_eq!(set_stretch(&mut packet, usize::MAX, b"x"), Verdict::Place);
+    assert_eq!(set_stretch(&mut packet, 2, b""), Verdict::Good);
+    assert_eq!(packet, was);
+    packet[8] = 1;
+    assert_eq!(lower_lifetime(&mut packet), Verdict::Spent);
+}
+
+#[test]
+fn captures() {
+    let mut verdicts = [7; 3];
+    assert_eq!(judge_capture(&CAPTURE, &mut verdicts), Ok(2));
+    assert_eq!(verdicts, [2, 0, 7]);
+    let mut verdicts = [7; 1];
+    assert_eq!(judge_capture(&CAPTURE, &mut verdicts), Err(Verdict::Room));
+    assert_eq!(
+        judge_capture(&CAPTURE[..36], &mut verdicts),
+        Err(Verdict::Record)
+    );
+    assert_eq!(
+        judge_capture(&CAPTURE[..4], &mut verdicts),
+        Err(Verdict::Edition)
+    );
+    assert_eq!(judge_capture(&[], &mut verdicts), Err(Verdict::Mark));
+    assert_eq!(verdicts, [7]);
+    assert_eq!(judge_capture(&CAPTURE[..5], &mut []), Ok(0));
+}

@@ -1,0 +1,36 @@
+-- The judge: the first rule that applies, in the paper's order.
+use Prim.Native.Nat.{ℕ}
+use mathlib.Core.List.{List, [], _∷_, _++_}
+use mathlib.Core.Bool.{not, _&&_}
+use Rattle.verdicts.specs.Rules.{Rule, _⇒_, verdictBy}
+use Rattle.verdicts.specs.declared.Verdict.{Verdict}
+use Rattle.verdicts.specs.declared.Verdict.the-variants.{Unsummed, HeaderSum, Missing, MessageSum}
+use Rattle.wire.specs.Outer.{four, six, outerRules, fragmentRule}
+use Rattle.wire.specs.Inner.{silentOf, messageRules}
+use Rattle.judge.specs.Sums.{headerSums, messageSums}
+
+abbrev pub headerSumRule : List ℕ → List Rule
+headerSumRule p = (not (headerSums p) ⇒ HeaderSum) ∷ []
+
+-- UDP zero: 8 over IPv6, 1 over IPv4
+abbrev pub missingRule : List ℕ → List Rule
+missingRule p = (silentOf p && six p ⇒ Missing) ∷ []
+
+abbrev pub unsummedRule : List ℕ → List Rule
+unsummedRule p = (silentOf p && four p ⇒ Unsummed) ∷ []
+
+abbrev pub messageSumRule : List ℕ → List Rule
+messageSumRule p = (not (messageSums p) ⇒ MessageSum) ∷ []
+
+unfoldable pub sumRules : List ℕ → List Rule
+sumRules p = missingRule p ++ (unsummedRule p ++ messageSumRule p)
+
+unfoldable pub judgeRules : List ℕ → List Rule
+judgeRules p = outerRules p ++ (headerSumRule p ++ (fragmentRule p ++ (messageRules p ++ sumRules p)))
+
+unfoldable pub judgeOf : List ℕ → Verdict
+judgeOf p = verdictBy (judgeRules p)
+
+-- the verdict on the message of a packet that no earlier rule refuses
+unfoldable pub messageVerdict : List ℕ → Verdict
+messageVerdict p = verdictBy (sumRules p)

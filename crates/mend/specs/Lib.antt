@@ -1,0 +1,3 @@
+-- Mending: the rules paper's section of that name.
+pub mod Fresh
+pub mod Mend

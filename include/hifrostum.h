@@ -1,0 +1,112 @@
+/* Hifrostum: judges, mends and edits the checksums of IP packets.
+ *
+ * Link with libhifrostum.a, for x86-64:  cc host.c libhifrostum.a
+ *
+ * Who owns what. Every buffer stays the caller's. It is lent for one call, which keeps no pointer,
+ * allocates nothing and has no state, so calls on different buffers may run at once. Buffers lent to
+ * one call must not overlap, the answers behind pointers among them. A pointer may be null where
+ * its length is 0. No other null pointer and no length past the buffer's end is allowed: these the
+ * library can't see. A packet begins at its IP header, and bytes past its declared end are a tail,
+ * which is neither judged nor changed.
+ *
+ * Refusals. Every verdict but good (0) and unsummed (1) is a refusal, and a refused call writes to
+ * no buffer. Where several would apply, the first in the order given is the answer. "The shape's
+ * refusals" below are, in this order: no bytes 2; version 3; under 20 (IPv4) or 40 (IPv6) bytes 2;
+ * IPv4 header length under 5 words 4; IPv4 total length below the header length 4; fewer bytes than
+ * declared 2; fragment 6; protocol 7; message shorter than its fixed header 4; TCP or UDP length 4.
+ * The shape's refusals look at no sum.
+ */
+#ifndef HIFROSTUM_H
+#define HIFROSTUM_H
+
+#include <stddef.h>
+#include <stdint.h>
+
+#ifdef __cplusplus
+extern "C" {
+#endif
+
+/* What a call answers. */
+enum hifrostum_verdict {
+    HIFROSTUM_GOOD = 0,        /* all sums in use pass, or the call was done */
+    HIFROSTUM_UNSUMMED = 1,    /* the IPv4 header passes, the UDP field is 0000 */
+    HIFROSTUM_CUT = 2,         /* no bytes, or fewer than a header has or than declared */
+    HIFROSTUM_VERSION = 3,     /* the version is not 4 or 6 */
+    HIFROSTUM_SHAPE = 4,       /* a length contradicts another */
+    HIFROSTUM_HEADER_SUM = 5,  /* the IPv4 header doesn't pass */
+    HIFROSTUM_FRAGMENT = 6,    /* more fragments follow, or the fragment offset is not 0 */
+    HIFROSTUM_UNCOVERED = 7,   /* a protocol that the library doesn't know in this family */
+    HIFROSTUM_MISSING = 8,     /* UDP over IPv6 with the field 0000 */
+    HIFROSTUM_MESSAGE_SUM = 9, /* the message doesn't pass */
+    HIFROSTUM_PLACE = 10,      /* a piece, stretch, side or address doesn't fit */
+    HIFROSTUM_SPENT = 11,      /* the lifetime is 0 or 1 */
+    HIFROSTUM_BLANK = 12,      /* an ICMP message that is, or would be, all zeros */
+    HIFROSTUM_MARK = 13,       /* a capture without the mark "GLR" */
+    HIFROSTUM_EDITION = 14,    /* a capture of another version than 1 */
+    HIFROSTUM_RECORD = 15,     /* a capture with a damaged record */
+    HIFROSTUM_ROOM = 16        /* more records than places for verdicts */
+};
+
+/* The verdict on a packet: 0 or 1, or the first refusal. Changes nothing.
+ * Refusals: the shape's, with a header sum (5) before fragment, then 8, 9. */
+uint8_t hifrostum_judge(const uint8_t *packet, size_t len);
+
+/* Sets the IPv4 header field and the message field to their fresh values, and answers 0. UDP over
+ * IPv4 with the field 0000 keeps it; over IPv6 it is filled in. No other byte changes.
+ * It makes any content look right: mend what you built, never what you received.
+ * Refusals: the shape's. */
+uint8_t hifrostum_mend(uint8_t *packet, size_t len);
+
+/* Lowers the lifetime (time to live, hop limit) by one and updates the IPv4 header field.
+ * A damaged packet stays damaged: an edit updates and never mends. This holds of all three edits.
+ * Refusals: the shape's, then 8; 11 if the lifetime is 0 or 1. */
+uint8_t hifrostum_lower_lifetime(uint8_t *packet, size_t len);
+
+/* Writes a new source (side 0) or destination (side 1) address and updates the fields that cover
+ * it: the IPv4 header's, and the message's unless it is ICMP over IPv4. A UDP field 0000 over IPv4
+ * stays. The address is read only.
+ * Refusals: the shape's, then 8; 10 for another side, or unless the address has 4 bytes (IPv4) or
+ * 16 (IPv6). */
+uint8_t hifrostum_set_address(uint8_t *packet, size_t len, uint32_t side,
+                              const uint8_t *address, size_t address_len);
+
+/* Writes new bytes into the body from a place on, and updates the message field. The body is the
+ * message after its fixed header (8 bytes for ICMP and UDP, 4 for ICMPv6), and for TCP after its
+ * data offset; place 0 is its first byte. A UDP field 0000 over IPv4 stays. An empty stretch that
+ * fits answers 0 and writes nothing. The new bytes are read only.
+ * Refusals: the shape's, then 8; 10 unless place plus length is at most the body's length, and
+ * nothing wraps; 12 for a nonempty stretch in an ICMP message that is all zeros, its field aside,
+ * before or after. */
+uint8_t hifrostum_set_stretch(uint8_t *packet, size_t len, size_t place,
+                              const uint8_t *bytes, size_t bytes_len);
+
+/* Judges each record of a capture: "GLR", the 16-bit version 1, then records of a 16-bit length (0
+ * to 2,048) and that many bytes. Writes one verdict number a record, in order, into verdicts, and
+ * the number of records into *count; later bytes of verdicts stay. Answers 0 if the capture was
+ * read, whatever the verdicts on its packets.
+ * Refusals, with *count set to 0: 13, 14, 15, 16. */
+uint8_t hifrostum_judge_capture(const uint8_t *capture, size_t len,
+                                uint8_t *verdicts, size_t verdicts_len, size_t *count);
+
+/* The partial sum of pieces of a buffer, joined in list order: its fold, and in *odd 1 if its
+ * length is odd, else 0. The list holds offset, length, offset, length; pieces_len counts 32-bit
+ * numbers. Pieces may be empty, overlap or repeat. Changes nothing but the two answers.
+ * Refusals, with *fold and *odd set to 0: 10 for a list of odd length, or a piece whose offset plus
+ * length passes the buffer's end. */
+uint8_t hifrostum_sum_chain(const uint8_t *buffer, size_t len,
+                            const uint32_t *pieces, size_t pieces_len,
+                            uint16_t *fold, uint8_t *odd);
+
+/* The field (the complement of the fold) of a byte string, as a number: in a packet its high byte
+ * comes first. Refuses nothing. */
+uint16_t hifrostum_field(const uint8_t *bytes, size_t len);
+
+/* The field after the words under it changed from one fold to another, by equation 3 of RFC 1624.
+ * Mind the kinds: the first is a field, the other two are folds. Refuses nothing. */
+uint16_t hifrostum_update(uint16_t field, uint16_t old_fold, uint16_t new_fold);
+
+#ifdef __cplusplus
+}
+#endif
+
+#endif

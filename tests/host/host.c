@@ -1,0 +1,678 @@
+/* Calls every exported function of the archive as a C host does.
+ *
+ * Each call is made three times: over buffers with guard bytes on both sides, over buffers at odd
+ * addresses, and over buffers that end where memory that can't be touched begins. The three must
+ * agree, no guard byte may change, and a refused call may change nothing at all. An empty buffer is
+ * a null pointer in the first. What is wanted is the rules paper's or comes from the sums below.
+ */
+#define _DEFAULT_SOURCE
+#include <stdio.h>
+#include <stdlib.h>
+#include <string.h>
+#include <sys/mman.h>
+#include <unistd.h>
+
+#include "hifrostum.h"
+
+enum { GUARD = 64, FILL = 0xA5, LAYS = 3, SPACE = 1 << 21 };
+
+/* Counting checks */
+
+static unsigned checks, failed, group_checks;
+
+static void check(int holds, const char *what)
+{
+    checks++;
+    if (!holds) {
+        failed++;
+        printf("host: failed: %s\n", what);
+    }
+}
+
+static void expect(unsigned long got, unsigned long want, const char *what)
+{
+    check(got == want, what);
+    if (got != want)
+        printf("host: wanted %lX and got %lX\n", want, got);
+}
+
+static void group(const char *name)
+{
+    printf("host: %s: %u checks\n", name, checks - group_checks);
+    group_checks = checks;
+}
+
+/* Rooms: memory that is lent to one call, between guard bytes or before a wall */
+
+struct room {
+    uint8_t *map, *lent;
+    size_t len;
+    int lay;
+};
+
+static struct room first, second, third, fourth;
+
+static void build(struct room *room)
+{
+    size_t page = (size_t)sysconf(_SC_PAGESIZE);
+    room->map = mmap(NULL, SPACE + page, PROT_READ | PROT_WRITE, MAP_PRIVATE | MAP_ANONYMOUS, -1, 0);
+    if (room->map == MAP_FAILED || mprotect(room->map + SPACE, page, PROT_NONE) != 0) {
+        perror("host: no memory");
+        exit(1);
+    }
+}
+
+/* Copies bytes into a room, in units of 1, 2, 4 or 8 bytes, with guard bytes around. */
+static void *lend(struct room *room, int lay, const void *bytes, size_t len, size_t unit)
+{
+    size_t start = lay == 2 ? SPACE - len : GUARD + (lay == 1 ? unit : 0);
+    room->lent = room->map + start;
+    room->len = len;
+    room->lay = lay;
+    memset(room->lent - GUARD, FILL, GUARD);
+    if (lay != 2)
+        memset(room->lent + len, FILL, GUARD);
+    if (len > 0)
+        memcpy(room->lent, bytes, len);
+    return lay == 0 && len == 0 ? NULL : room->lent;
+}
+
+static void guards(const struct room *room)
+{
+    int kept = 1;
+    for (size_t i = 1; i <= GUARD; i++) {
+        kept &= room->lent[-(ptrdiff_t)i] == FILL;
+        kept &= room->lay == 2 || room->lent[room->len + i - 1] == FILL;
+    }
+    check(kept, "guard bytes");
+}
+
+static void unchanged(const struct room *room, const void *bytes)
+{
+    check(room->len == 0 || memcmp(room->lent, bytes, room->len) == 0, "a byte that was to stay");
+}
+
+/* Calls */
+
+enum operation { JUDGE, MEND, LIFETIME, ADDRESS, STRETCH };
+
+/* Calls an operation on a packet, with a side or place and new bytes. Changes the packet as it did. */
+static unsigned call(enum operation op, uint8_t *packet, size_t len, size_t number,
+                     const uint8_t *bytes, size_t bytes_len)
+{
+    static uint8_t was[SPACE];
+    unsigned answer = 0;
+    if (len > 0)
+        memcpy(was, packet, len);
+    for (int lay = 0; lay < LAYS; lay++) {
+        uint8_t *p = lend(&first, lay, was, len, 1), *b = lend(&second, lay, bytes, bytes_len, 1);
+        unsigned verdict = op == JUDGE      ? hifrostum_judge(p, len)
+                           : op == MEND     ? hifrostum_mend(p, len)
+                           : op == LIFETIME ? hifrostum_lower_lifetime(p, len)
+                           : op == ADDRESS  ? hifrostum_set_address(p, len, (uint32_t)number, b, bytes_len)
+                                            : hifrostum_set_stretch(p, len, number, b, bytes_len);
+        guards(&first);
+        guards(&second);
+        unchanged(&second, bytes);
+        if (verdict != 0 || op == JUDGE)
+            unchanged(&first, was);
+        if (lay == 0) {
+            answer = verdict;
+            if (len > 0)
+                memcpy(packet, first.lent, len);
+        } else {
+            expect(verdict, answer, "the same answer in another place");
+            unchanged(&first, packet);
+        }
+    }
+    return answer;
+}
+
+static unsigned judge(uint8_t *packet, size_t len)
+{
+    return call(JUDGE, packet, len, 0, NULL, 0);
+}
+
+static unsigned mend(uint8_t *packet, size_t len)
+{
+    return call(MEND, packet, len, 0, NULL, 0);
+}
+
+static unsigned lower(uint8_t *packet, size_t len)
+{
+    return call(LIFETIME, packet, len, 0, NULL, 0);
+}
+
+static unsigned field(const uint8_t *bytes, size_t len)
+{
+    unsigned answer = 0;
+    for (int lay = 0; lay < LAYS; lay++) {
+        unsigned value = hifrostum_field(lend(&first, lay, bytes, len, 1), len);
+        guards(&first);
+        unchanged(&first, bytes);
+        answer = lay == 0 ? value : answer;
+        expect(value, answer, "the same field in another place");
+    }
+    return answer;
+}
+
+/* The partial sum of a chain, and checks of the verdict and of the answers beside a refusal. */
+static unsigned chain(const uint8_t *bytes, size_t len, const uint32_t *pieces, size_t pieces_len,
+                      unsigned verdict, unsigned odd)
+{
+    static const uint16_t before_fold = 0x5A5A;
+    static const uint8_t before_odd = 0x5A;
+    uint16_t answer = 0;
+    for (int lay = 0; lay < LAYS; lay++) {
+        uint8_t *b = lend(&first, lay, bytes, len, 1);
+        uint32_t *q = lend(&second, lay, pieces, 4 * pieces_len, 4);
+        uint16_t *fold = lend(&third, lay, &before_fold, 2, 2);
+        uint8_t *is_odd = lend(&fourth, lay, &before_odd, 1, 1);
+        expect(hifrostum_sum_chain(b, len, q, pieces_len, fold, is_odd), verdict, "chain: verdict");
+        expect(*is_odd, odd, "chain: odd");
+        if (verdict != 0)
+            expect(*fold, 0, "chain: fold beside a refusal");
+        answer = lay == 0 ? *fold : answer;
+        expect(*fold, answer, "the same fold in another place");
+        guards(&first);
+        guards(&second);
+        guards(&third);
+        guards(&fourth);
+        unchanged(&first, bytes);
+        unchanged(&second, pieces);
+    }
+    return answer;
+}
+
+/* Judges a capture and checks verdict, count and that nothing past the count is written. */
+static void capture(const uint8_t *bytes, size_t len, uint8_t *verdicts, size_t verdicts_len,
+                    unsigned verdict, size_t count)
+{
+    static uint8_t was[SPACE];
+    static const size_t before_count = 77;
+    memset(was, 0x5A, verdicts_len);
+    for (int lay = 0; lay < LAYS; lay++) {
+        uint8_t *b = lend(&first, lay, bytes, len, 1), *v = lend(&second, lay, was, verdicts_len, 1);
+        size_t *c = lend(&third, lay, &before_count, sizeof *c, sizeof *c);
+        expect(hifrostum_judge_capture(b, len, v, verdicts_len, c), verdict, "capture: verdict");
+        expect(*c, count, "capture: count");
+        guards(&first);
+        guards(&second);
+        guards(&third);
+        unchanged(&first, bytes);
+        if (verdict == 0 && count <= verdicts_len)
+            check(count == verdicts_len || memcmp(v + count, was + count, verdicts_len - count) == 0,
+                  "capture: past the count");
+        else
+            unchanged(&second, was);
+        if (verdicts_len > 0)
+            memcpy(verdicts, second.lent, verdicts_len);
+    }
+}
+
+/* Sums of the test's own: RFC 1071 word by word */
+
+static unsigned long weigh(const uint8_t *bytes, size_t len)
+{
+    unsigned long total = 0;
+    for (size_t i = 0; i < len; i++)
+        total += i % 2 ? bytes[i] : 256ul * bytes[i];
+    return total;
+}
+
+static unsigned fold(unsigned long total)
+{
+    return total == 0 ? 0 : (unsigned)(1 + (total - 1) % 65535);
+}
+
+static unsigned word(const uint8_t *at)
+{
+    return 256u * at[0] + at[1];
+}
+
+static void put(uint8_t *at, size_t value)
+{
+    at[0] = (uint8_t)(value >> 8);
+    at[1] = (uint8_t)value;
+}
+
+/* What a message's own sum comes to, its field included. */
+static unsigned message_sum(const uint8_t *packet)
+{
+    int four = packet[0] >> 4 == 4;
+    size_t start = four ? 4u * (packet[0] & 15) : 40, end = four ? word(packet + 2) : 40 + word(packet + 4);
+    unsigned protocol = four ? packet[9] : packet[6];
+    unsigned long total = weigh(packet + start, end - start);
+    if (protocol != 1)
+        total += weigh(packet + (four ? 12 : 8), four ? 8 : 32) + protocol + (end - start);
+    return fold(total);
+}
+
+/* Builds a packet of a family and protocol whose message has so many bytes, all fields 0000, the
+ * lifetime 64. Answers its length. */
+static size_t packet_of(uint8_t *packet, int family, unsigned protocol, size_t message)
+{
+    size_t start = family == 4 ? 20 : 40;
+    for (size_t i = 0; i < start + message; i++)
+        packet[i] = (uint8_t)(i * 37 + 11);
+    if (family == 4) {
+        packet[0] = 0x45;
+        put(packet + 2, 20 + message);
+        put(packet + 6, 0x4000);
+        packet[8] = 64;
+        packet[9] = (uint8_t)protocol;
+        put(packet + 10, 0);
+    } else {
+        packet[0] = 0x60;
+        put(packet + 4, message);
+        packet[6] = (uint8_t)protocol;
+        packet[7] = 64;
+    }
+    uint8_t *m = packet + start;
+    if (protocol == 6)
+        m[12] = 0x50;
+    if (protocol == 17)
+        put(m + 4, message);
+    put(m + (protocol == 6 ? 16 : protocol == 17 ? 6 : 2), protocol == 17 ? 0xFFFF : 0);
+    return start + message;
+}
+
+/* The rules paper's packets */
+
+static const uint8_t udp[30] = {0x45, 0, 0, 0x1E, 0, 0, 0x40, 0, 0x40, 0x11, 0xB8, 0xB6, 0xC0, 0xA8, 0, 1, 0xC0, 0xA8, 0, 0xC7,
+                                0x13, 0x88, 0x13, 0x89, 0, 0x0A, 0x0E, 0x47, 0x48, 0x69};
+static const uint8_t icmp6[48] = {0x60, 0, 0, 0, 0, 8, 58, 64, [23] = 1, [39] = 1, [40] = 0x80, 0, 0x7F, 0xB9, 0, 1, 0, 1};
+static const uint8_t glr[37] = {0x47, 0x4C, 0x52, 0, 1, 0, 0, 0, 0x1C, 0x45, 0, 0, 0x1C, 0, 0, 0, 0, 0x40, 1, 0x66, 0xDF, 0x0A, 0, 0, 1,
+                                0x0A, 0, 0, 2, 8, 0, 0xF7, 0xFD, 0, 1, 0, 1};
+
+static uint8_t p[SPACE], q[SPACE];
+
+/* p becomes the paper's UDP packet. */
+static void take_udp(void)
+{
+    memcpy(p, udp, sizeof udp);
+}
+
+static void sums(void)
+{
+    static const uint8_t words[8] = {0, 1, 0xF2, 3, 0xF4, 0xF5, 0xF6, 0xF7};
+    static const uint8_t ones[2] = {0xFF, 0xFF}, zeros[2] = {0, 0}, odd[1] = {0xAB};
+    expect(field(NULL, 0), 0xFFFF, "field of no bytes");
+    expect(field(zeros, 2), 0xFFFF, "field of 00 00");
+    expect(field(ones, 2), 0, "field of FF FF");
+    expect(field(odd, 1), 0x54FF, "field of AB");
+    expect(field(words, 8), 0x220D, "field of RFC 1071's words");
+    memset(p, 0xFF, SPACE / 2);
+    expect(field(p, SPACE / 2), 0, "field of a megabyte of FF");
+    for (size_t i = 0; i < SPACE / 2; i++)
+        p[i] = (uint8_t)(i * i >> 3);
+    for (size_t len = 0; len < 70; len++)
+        expect(field(p + len, len), 65535 - fold(weigh(p + len, len)), "field of each length");
+    expect(field(p, SPACE / 2 - 1), 65535 - fold(weigh(p, SPACE / 2 - 1)), "field of an odd megabyte");
+
+    expect(hifrostum_update(0xDD2F, 0x5555, 0x3285), 0, "update DD2F");
+    expect(hifrostum_update(0xEDCB, 0x1234, 0), 0, "update EDCB");
+    expect(hifrostum_update(0xB861, 0x4000, 0x3F00), 0xB961, "update of a lifetime");
+    expect(hifrostum_update(0xFFFF, 0x1234, 0x1234), 0, "update of FFFF by nothing");
+    static const uint16_t corners[] = {0, 1, 0xFF, 0x100, 0x7FFF, 0x8000, 0xFFFE, 0xFFFF};
+    for (unsigned i = 0; i < 512; i++) {
+        uint16_t hc = corners[i / 64], m = corners[i / 8 % 8], n = corners[i % 8];
+        expect(hifrostum_update(hc, m, n), 65535 - fold(65535ul - hc + 65535ul - m + n), "update at a corner");
+    }
+
+    static const uint32_t joined[] = {0, 3, 3, 5}, gaps[] = {8, 0, 7, 1, 0, 0, 2, 3, 2, 3};
+    static const uint8_t gathered[7] = {0xF7, 0xF2, 3, 0xF4, 0xF2, 3, 0xF4};
+    static const uint32_t wrapped[] = {0xFFFFFFFF, 1}, past[] = {0, 3, 9, 0}, late[] = {0, 8, 0, 8, 1, 8};
+    expect(chain(words, 8, joined, 4, 0, 0), 0xDDF2, "chain of 3 bytes and 5");
+    expect(chain(words, 8, joined, 2, 0, 1), 0xF201, "chain of 3 bytes");
+    expect(chain(words, 8, joined + 2, 2, 0, 1), 0xF0EB, "chain of 5 bytes");
+    expect(chain(words, 8, gaps, 10, 0, 1), fold(weigh(gathered, 7)), "chain of odd and repeated pieces");
+    expect(chain(words, 8, NULL, 0, 0, 0), 0, "empty chain");
+    expect(chain(NULL, 0, joined, 0, 0, 0), 0, "empty chain of nothing");
+    expect(chain(NULL, 0, gaps + 4, 2, 0, 0), 0, "empty piece of nothing");
+    chain(words, 8, joined, 3, 10, 0);
+    chain(words, 8, joined, 1, 10, 0);
+    chain(words, 7, joined, 4, 10, 0);
+    chain(words, 8, wrapped, 2, 10, 0);
+    chain(words, 8, past, 4, 10, 0);
+    chain(words, 8, late, 6, 10, 0);
+    chain(NULL, 0, joined, 2, 10, 0);
+    static uint32_t many[20000];
+    for (size_t i = 0; i < 20000; i += 2) {
+        many[i] = (uint32_t)i;
+        many[i + 1] = 1;
+        q[i / 2] = p[i];
+    }
+    expect(chain(p, SPACE / 2, many, 20000, 0, 0), fold(weigh(q, 10000)), "chain of ten thousand bytes");
+}
+
+static void judging(void)
+{
+    expect(judge(NULL, 0), 2, "no bytes");
+    take_udp();
+    expect(judge(p, 30), 0, "the paper's UDP packet");
+    for (size_t len = 1; len < 30; len++)
+        expect(judge(p, len), 2, "a cut packet");
+    memcpy(q, icmp6, 48);
+    expect(judge(q, 48), 0, "the paper's ICMPv6 packet");
+    for (size_t len = 1; len < 48; len++)
+        expect(judge(q, len), 2, "a cut IPv6 packet");
+    memcpy(q, glr + 9, 28);
+    expect(judge(q, 28), 0, "the paper's ICMP packet");
+
+    /* one byte at a time: where, its value, and the verdict */
+    static const struct {
+        size_t at;
+        uint8_t value;
+        unsigned verdict;
+    } damage[] = {{0, 0x05, 3}, {0, 0x55, 3}, {0, 0x75, 3}, {0, 0x44, 4}, {0, 0x48, 4}, {3, 0x13, 4}, {3, 0x1F, 2},
+                  {8, 0x3F, 5}, {29, 0x6A, 9}, {27, 0x48, 9}, {20, 0x12, 9}, {25, 0x0B, 4}};
+    for (size_t i = 0; i < sizeof damage / sizeof *damage; i++) {
+        take_udp();
+        p[damage[i].at] = damage[i].value;
+        expect(judge(p, 30), damage[i].verdict, "a damaged packet");
+    }
+
+    take_udp();
+    put(p + 26, 0);
+    expect(judge(p, 30), 1, "unsummed");
+    put(p + 6, 0x2000);
+    put(p + 10, 0xB8B6 + 0x2000);
+    expect(judge(p, 30), 6, "more fragments");
+    put(p + 6, 0x0001);
+    put(p + 10, 0xB8B6 + 0x3FFF);
+    expect(judge(p, 30), 6, "a later fragment");
+    size_t len = packet_of(p, 4, 58, 8);
+    put(p + 10, 65535 - fold(weigh(p, 20)));
+    expect(judge(p, len), 7, "ICMPv6 in IPv4");
+    len = packet_of(p, 6, 17, 8);
+    put(p + 46, 0);
+    expect(judge(p, len), 8, "UDP over IPv6 with no sum");
+    memset(p, 0, 40);
+    p[0] = 0x60;
+    p[6] = 17;
+    expect(judge(p, 40), 4, "an empty message");
+}
+
+static void mending(void)
+{
+    expect(mend(NULL, 0), 2, "no bytes");
+    size_t len = packet_of(p, 4, 17, 95);
+    memcpy(p, udp, 20);
+    put(p + 2, 0x73);
+    expect(mend(p, len), 0, "mend the paper's header");
+    expect(word(p + 10), 0xB861, "the paper's header field");
+    expect(lower(p, len), 0, "lower it");
+    expect(word(p + 10), 0xB961, "the paper's lowered header field");
+
+    take_udp();
+    put(p + 26, 0x1234);
+    put(p + 10, 0x1234);
+    expect(mend(p, 30), 0, "mend the paper's UDP packet");
+    check(memcmp(p, udp, 30) == 0, "the paper's UDP packet");
+    put(p + 28, 0x56B0);
+    expect(mend(p, 30), 0, "mend data 56 B0");
+    expect(word(p + 26), 0xFFFF, "computed 0000, sent FFFF");
+    expect(judge(p, 30), 0, "judge FFFF");
+    put(p + 26, 0);
+    expect(mend(p, 30), 0, "mend an unsummed packet");
+    expect(word(p + 26), 0, "a kept zero");
+    expect(judge(p, 30), 1, "judge a kept zero");
+
+    memcpy(p, icmp6, 48);
+    put(p + 42, 0);
+    expect(mend(p, 48), 0, "mend the paper's ICMPv6 packet");
+    expect(word(p + 42), 0x7FB9, "the paper's ICMPv6 field");
+
+    static const struct {
+        int family;
+        unsigned protocol;
+        size_t message;
+    } kinds[] = {{4, 1, 8}, {4, 1, 9}, {4, 6, 20}, {4, 6, 21}, {4, 17, 8}, {4, 17, 1473},
+                 {6, 6, 20}, {6, 6, 1441}, {6, 17, 8}, {6, 17, 9}, {6, 58, 4}, {6, 58, 1001}};
+    for (size_t i = 0; i < sizeof kinds / sizeof *kinds; i++) {
+        len = packet_of(p, kinds[i].family, kinds[i].protocol, kinds[i].message);
+        p[len] = 0xEE;
+        expect(mend(p, len + 1), 0, "mend");
+        expect(message_sum(p), 0xFFFF, "the message sums right");
+        expect(p[len], 0xEE, "the tail stays");
+        expect(judge(p, len + 1), 0, "judge what was mended");
+        memcpy(q, p, len);
+        expect(mend(p, len), 0, "mend again");
+        check(memcmp(p, q, len) == 0, "twice is once");
+    }
+
+    len = packet_of(p, 6, 17, 8);
+    put(p + 46, 0);
+    expect(mend(p, len), 0, "mend UDP over IPv6 with no sum");
+    expect(judge(p, len), 0, "which fills it in");
+    len = packet_of(p, 4, 1, 12);
+    memset(p + 20, 0, 12);
+    expect(mend(p, len), 0, "mend blank ICMP");
+    expect(word(p + 22), 0xFFFF, "its field");
+    take_udp();
+    put(p + 6, 1);
+    expect(mend(p, 30), 6, "mend a fragment");
+    put(p + 6, 0);
+    p[9] = 58;
+    expect(mend(p, 30), 7, "mend what is uncovered");
+    p[9] = 6;
+    expect(mend(p, 30), 4, "mend TCP without a header");
+    p[0] = 0x15;
+    expect(mend(p, 30), 3, "mend version 1");
+}
+
+static void lifetime(void)
+{
+    expect(lower(NULL, 0), 2, "no bytes");
+    take_udp();
+    for (unsigned left = 64; left > 1; left--) {
+        expect(lower(p, 30), 0, "lower");
+        expect(p[8], left - 1, "one less");
+        expect(judge(p, 30), 0, "judge what was lowered");
+    }
+    expect(lower(p, 30), 11, "a lifetime of 1");
+    p[8] = 0;
+    expect(lower(p, 30), 11, "a lifetime of 0");
+    memcpy(p, icmp6, 48);
+    expect(lower(p, 48), 0, "lower IPv6");
+    p[7]++;
+    check(memcmp(p, icmp6, 48) == 0, "nothing but the hop limit");
+    p[7] = 1;
+    expect(lower(p, 48), 11, "a hop limit of 1");
+    take_udp();
+    p[29] = 0x6A;
+    expect(lower(p, 30), 0, "lower a damaged packet");
+    expect(judge(p, 30), 9, "it stays damaged");
+    put(p + 6, 0x2000);
+    expect(lower(p, 30), 6, "lower a fragment");
+    expect(lower(p, 29), 2, "lower a cut packet");
+    size_t len = packet_of(p, 6, 17, 8);
+    put(p + 46, 0);
+    p[7] = 0;
+    expect(lower(p, len), 8, "lower UDP over IPv6 with no sum");
+}
+
+static void address(void)
+{
+    static const uint8_t new4[4] = {10, 0, 0, 9}, new6[17] = {0x20, 1, 0x0D, 0xB8, [15] = 9};
+    static const uint8_t want[30] = {0x45, 0, 0, 0x1E, 0, 0, 0x40, 0, 0x40, 0x11, 0x70, 0x1D, 0xC0, 0xA8, 0, 1, 10, 0, 0, 9,
+                                     0x13, 0x88, 0x13, 0x89, 0, 0x0A, 0xC5, 0xAD, 0x48, 0x69};
+    expect(call(ADDRESS, NULL, 0, 0, new4, 4), 2, "no bytes");
+    take_udp();
+    expect(call(ADDRESS, p, 30, 1, new4, 4), 0, "a new destination");
+    check(memcmp(p, want, 30) == 0, "its bytes");
+    expect(call(ADDRESS, p, 30, 0, new4, 4), 0, "a new source");
+    expect(word(p + 12), 0x0A00, "in place");
+    expect(judge(p, 30), 0, "judge it");
+    expect(call(ADDRESS, p, 30, 2, new4, 4), 10, "side 2");
+    expect(call(ADDRESS, p, 30, 0xFFFFFFFF, new4, 4), 10, "side FFFFFFFF");
+    expect(call(ADDRESS, p, 30, 0, NULL, 0), 10, "no address");
+    expect(call(ADDRESS, p, 30, 0, new4, 3), 10, "an address of 3 bytes");
+    expect(call(ADDRESS, p, 30, 0, new6, 5), 10, "an address of 5 bytes");
+    expect(call(ADDRESS, p, 30, 0, new6, 16), 10, "an address of the other family");
+    put(p + 26, 0);
+    expect(call(ADDRESS, p, 30, 1, udp + 16, 4), 0, "a new destination of an unsummed packet");
+    expect(word(p + 26), 0, "a kept zero");
+    expect(judge(p, 30), 1, "judge it");
+
+    memcpy(p, icmp6, 48);
+    for (size_t side = 0; side < 2; side++) {
+        expect(call(ADDRESS, p, 48, side, new6, 16), 0, "a new IPv6 address");
+        check(memcmp(p + 8 + 16 * side, new6, 16) == 0, "in place");
+        expect(judge(p, 48), 0, "judge it");
+    }
+    expect(call(ADDRESS, p, 48, 2, new6, 16), 10, "side 2");
+    expect(call(ADDRESS, p, 48, 1, new6, 15), 10, "an address of 15 bytes");
+    expect(call(ADDRESS, p, 48, 1, new6, 17), 10, "an address of 17 bytes");
+    expect(call(ADDRESS, p, 48, 1, new4, 4), 10, "an address of the other family");
+    p[6] = 44;
+    expect(call(ADDRESS, p, 48, 2, new4, 0), 7, "uncovered comes first");
+}
+
+static void stretch(void)
+{
+    static const uint8_t new[4] = {0xDE, 0xAD, 0xBE, 0xEF}, zeros[8] = {0};
+    expect(call(STRETCH, NULL, 0, 0, NULL, 0), 2, "no bytes");
+    take_udp();
+    put(p + 28, 0x56B0);
+    put(p + 26, 0xFFFF);
+    expect(call(STRETCH, p, 30, 0, udp + 28, 2), 0, "a new body");
+    check(memcmp(p, udp, 30) == 0, "its bytes");
+    expect(call(STRETCH, p, 30, 1, new, 1), 0, "one byte at an odd place");
+    expect(p[29], 0xDE, "in place");
+    expect(judge(p, 30), 0, "judge it");
+    expect(call(STRETCH, p, 30, 0, new, 3), 10, "too long");
+    expect(call(STRETCH, p, 30, 1, new, 2), 10, "too far");
+    expect(call(STRETCH, p, 30, 2, NULL, 0), 0, "nothing at the end");
+    expect(call(STRETCH, p, 30, 3, NULL, 0), 10, "nothing past the end");
+    expect(call(STRETCH, p, 30, SIZE_MAX, new, 1), 10, "place SIZE_MAX");
+    expect(call(STRETCH, p, 30, SIZE_MAX, NULL, 0), 10, "nothing at place SIZE_MAX");
+    expect(call(STRETCH, p, 30, SIZE_MAX - 1, new, 4), 10, "a place that wraps");
+
+    size_t len = packet_of(p, 6, 6, 41);
+    p[52] = 0x70;
+    mend(p, len);
+    for (size_t place = 0; place <= 13; place++)
+        for (size_t n = 0; n <= 4; n++) {
+            expect(call(STRETCH, p, len, place, new, n), place + n > 13 ? 10 : 0, "TCP after its options");
+            check(place + n > 13 || memcmp(p + 68 + place, new, n) == 0, "in place");
+            expect(judge(p, len), 0, "judge it");
+        }
+
+    len = packet_of(p, 4, 1, 12);
+    memset(p + 20, 0, 12);
+    p[30] = 7;
+    mend(p, len);
+    expect(call(STRETCH, p, len, 0, zeros, 4), 12, "it would be blank");
+    expect(call(STRETCH, p, len, 0, zeros, 2), 0, "it would not be blank");
+    expect(call(STRETCH, p, len, 0, zeros, 5), 10, "place before blank");
+    p[30] = 0;
+    expect(call(STRETCH, p, len, 0, new, 1), 12, "it is blank");
+    expect(call(STRETCH, p, len, 4, NULL, 0), 0, "nothing, though blank");
+    expect(call(STRETCH, p, len - 1, 0, new, 1), 2, "a cut packet");
+}
+
+static void captures(void)
+{
+    static uint8_t verdicts[1200];
+    capture(glr, 37, verdicts, 2, 0, 2);
+    expect(word(verdicts), 0x0200, "the paper's capture");
+    capture(glr, 37, verdicts, 9, 0, 2);
+    capture(glr, 37, verdicts, 1, 16, 0);
+    capture(glr, 37, verdicts, 0, 16, 0);
+    capture(glr, 5, verdicts, 0, 0, 0);
+    capture(NULL, 0, verdicts, 0, 13, 0);
+    for (size_t len = 0; len < 37; len++)
+        if (len < 5)
+            capture(glr, len, verdicts, 0, len < 3 ? 13 : 14, 0);
+        else if (len != 5 && len != 7)
+            capture(glr, len, verdicts, 0, 15, 0);
+    capture(glr, 7, verdicts, 3, 0, 1);
+    memcpy(p, glr, 37);
+    p[2] = 'S';
+    capture(p, 37, verdicts, 2, 13, 0);
+    p[2] = 'R';
+    p[4] = 2;
+    capture(p, 37, verdicts, 2, 14, 0);
+    p[4] = 1;
+    p[5] = 8;
+    p[6] = 1;
+    capture(p, 5 + 2 + 2049, verdicts, 2, 15, 0);
+
+    /* a thousand records of the longest length, every third cut */
+    size_t len = 5;
+    for (size_t i = 0; i < 1000; i++) {
+        put(p + len, 2048);
+        size_t n = packet_of(p + len + 2, 4, 17, 2028);
+        put(p + len + 2 + 10, 65535 - fold(weigh(p + len + 2, 20)));
+        put(p + len + 2 + 26, 0);
+        if (i % 3 == 0)
+            put(p + len + 2 + 2, 2049);
+        len += 2 + n;
+    }
+    capture(p, len, verdicts, 1200, 0, 1000);
+    for (size_t i = 0; i < 1000; i++)
+        expect(verdicts[i], i % 3 == 0 ? 2 : 1, "a verdict for each record");
+    capture(p, len, verdicts, 1000, 0, 1000);
+    capture(p, len, verdicts, 999, 16, 0);
+    capture(p, len - 1, verdicts, 0, 15, 0);
+}
+
+/* The largest packets that the formats allow, without a tail and with one. */
+static void largest(void)
+{
+    static const uint8_t new[16] = {0xFD, 7, [15] = 3};
+    static uint8_t body[65536];
+    for (size_t i = 0; i < sizeof body; i++)
+        body[i] = (uint8_t)(i * 101 >> 2);
+    static const struct {
+        int family;
+        unsigned protocol;
+        size_t message, fixed;
+    } kinds[] = {{4, 1, 65515, 8}, {4, 6, 65515, 20}, {4, 17, 65515, 8}, {6, 6, 65535, 20}, {6, 17, 65535, 8}, {6, 58, 65535, 4}};
+    for (size_t i = 0; i < 2 * sizeof kinds / sizeof *kinds; i++) {
+        size_t message = kinds[i / 2].message, body_len = message - kinds[i / 2].fixed;
+        size_t len = packet_of(p, kinds[i / 2].family, kinds[i / 2].protocol, message);
+        size_t tail = i % 2 ? 100000 : 0;
+        memset(p + len, 0xEE, tail);
+        expect(mend(p, len + tail), 0, "mend the largest");
+        expect(message_sum(p), 0xFFFF, "the largest sums right");
+        expect(lower(p, len + tail), 0, "lower the largest");
+        expect(call(ADDRESS, p, len + tail, 1, new, kinds[i / 2].family == 4 ? 4 : 16), 0, "a new destination");
+        expect(call(STRETCH, p, len + tail, 1, body, body_len - 1), 0, "a whole new body but one byte");
+        expect(call(STRETCH, p, len + tail, 1, body, body_len), 10, "one byte too many");
+        check(memcmp(p + len - body_len + 1, body, body_len - 1) == 0, "in place");
+        expect(message_sum(p), 0xFFFF, "it still sums right");
+        expect(judge(p, len + tail), 0, "judge the largest");
+        expect(judge(p, len - 1), 2, "one byte short");
+        p[len - 1] ^= 4;
+        expect(judge(p, len + tail), 9, "its last byte damaged");
+    }
+}
+
+int main(void)
+{
+    build(&first);
+    build(&second);
+    build(&third);
+    build(&fourth);
+    sums();
+    group("field, update, sum_chain");
+    judging();
+    group("judge");
+    mending();
+    group("mend");
+    lifetime();
+    group("lower_lifetime");
+    address();
+    group("set_address");
+    stretch();
+    group("set_stretch");
+    captures();
+    group("judge_capture");
+    largest();
+    group("largest packets");
+    printf("host: %u checks, %u failed\n", checks, failed);
+    return failed != 0;
+}

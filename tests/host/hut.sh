@@ -1,0 +1,137 @@
+#!/bin/sh
+# Runs captures through the hut, and judges what comes out with the program judge_capture.
+#   hut.sh HUT JUDGE_CAPTURE    two x86-64 programs
+set -eu
+x86=$(dirname "$0")/../../scripts/x86.sh
+hut=$1 judge_capture=$2
+dir=$(mktemp -d)
+trap 'rm -rf "$dir"' EXIT
+checks=0 failed=0
+
+# Writes the bytes that the words say in hex.
+bytes() {
+    for pair in $(echo "$*" | tr -d ' ' | sed 's/../& /g'); do
+        # shellcheck disable=SC2059
+        printf "\\$(printf %03o "0x$pair")"
+    done
+}
+
+# Counts a check, and says what was wrong if WANT and GOT differ.
+same() { # WHAT WANT GOT
+    checks=$((checks + 1))
+    [ "$2" = "$3" ] && return
+    failed=$((failed + 1))
+    printf 'hut: %s: wanted\n%s\nand got\n%s\n' "$1" "$2" "$3"
+}
+
+# Runs the hut on the capture in, and leaves its output, what it said and its exit status.
+relay() { # WORDS..
+    status=0
+    "$x86" run "$hut" "$@" <"$dir/in" >"$dir/out" 2>"$dir/said" || status=$?
+}
+
+head='474C52 0001'
+echo4='4500 001C 0000 0000 40 01 66DF 0A000001 0A000002 0800 F7FD 0001 0001'
+udp4='4500 001E 0000 4000 40 11 B8B6 C0A80001 C0A800C7 1388 1389 000A 0E47 4869'
+one=00000000000000000000000000000001
+echo6="60000000 0008 3A 40 $one $one 8000 7FB9 0001 0001"
+unsummed=$(echo "$udp4" | sed 's/0E47/0000/')
+
+# Each packet that is to pass, and what is to drop the others.
+bytes "$head" \
+    0000 \
+    001C "$echo4" \
+    001E "$udp4" \
+    001E "$(echo "$udp4" | sed 's/4869/486A/')" \
+    001E "$(echo "$udp4" | sed 's/B8B6/B8B7/')" \
+    001E "$(echo "$udp4" | sed 's/40 11 B8B6/01 11 F7B6/')" \
+    0030 "$echo6" \
+    001E "$unsummed" \
+    0001 50 0001 50 >"$dir/in"
+relay 10.0.0.9
+same 'exit status' 0 "$status"
+same 'what it says' 'hut: dropped 1: cut
+hut: dropped 2: version
+hut: dropped 1: header sum
+hut: dropped 1: message sum
+hut: dropped 1: spent
+hut: records 10 relayed 4 dropped 6' "$(cat "$dir/said")"
+bytes "$head" \
+    001C "$(echo "$echo4" | sed 's/40 01 66DF/3F 01 67D8/; s/0A000002/0A000009/')" \
+    001E "$(echo "$udp4" | sed 's/40 11 B8B6/3F 11 711D/; s/C0A800C7/0A000009/; s/0E47/C5AD/')" \
+    0030 "$(echo "$echo6" | sed 's/3A 40/3A 3F/')" \
+    001E "$(echo "$unsummed" | sed 's/40 11 B8B6/3F 11 711D/; s/C0A800C7/0A000009/')" >"$dir/want"
+same 'what it writes' "$(od -An -tx1 -v "$dir/want")" "$(od -An -tx1 -v "$dir/out")"
+same 'judged' 'record 1 verdict 0
+record 2 verdict 0
+record 3 verdict 0
+record 4 verdict 1
+records 4 good 3 unsummed 1 refused 0' "$("$x86" run "$judge_capture" <"$dir/out")"
+
+# The other family: IPv4 keeps its destination, and the IPv6 sums still pass.
+relay 2001:db8::9
+same 'IPv6: exit status' 0 "$status"
+same 'IPv6: judged' 'record 1 verdict 0
+record 2 verdict 0
+record 3 verdict 0
+record 4 verdict 1
+records 4 good 3 unsummed 1 refused 0' "$("$x86" run "$judge_capture" <"$dir/out")"
+bytes "$(echo "$echo4" | sed 's/40 01 66DF/3F 01 67DF/')" >"$dir/want"
+same 'IPv6: an IPv4 packet' "$(od -An -tx1 -v "$dir/want")" "$(tail -c +8 "$dir/out" | head -c 28 | od -An -tx1 -v)"
+
+# Damaged input: said in words, exit status 1, and what was relayed before is a whole capture.
+damaged() { # WORDS HEX..
+    words=$1
+    shift
+    bytes "$@" >"$dir/in"
+    relay 10.0.0.9
+    same "$*: exit status" 1 "$status"
+    same "$*: what it says" "$words" "$(sed -n 's/^hut: damaged capture: //p' "$dir/said")"
+}
+mark="it doesn't begin with the mark GLR" version='its version is not 1'
+damaged "$mark"
+damaged "$mark" 474C
+damaged "$mark" 474C53 0001
+damaged "$version" 474C52
+damaged "$version" 474C52 00
+damaged "$version" 474C52 0002
+damaged 'record 1: it is longer than 2048 bytes' "$head" 0801 00
+damaged 'record 2: its length is cut' "$head" 001C "$echo4" 00
+damaged 'record 2: its packet is cut' "$head" 001C "$echo4" 0002 45
+same 'a damaged capture: judged' 'record 1 verdict 0
+records 1 good 1 unsummed 0 refused 0' "$("$x86" run "$judge_capture" <"$dir/out")"
+
+# The longest record, and no record.
+{
+    bytes "$head" 0800 "$echo4"
+    head -c 2020 /dev/zero
+} >"$dir/in"
+relay 10.0.0.9
+same 'longest: exit status' 0 "$status"
+same 'longest: size' 2055 "$(($(wc -c <"$dir/out")))"
+bytes "$head" >"$dir/in"
+relay 10.0.0.9
+same 'no record: exit status' 0 "$status"
+same 'no record: what it says' 'hut: records 0 relayed 0 dropped 0' "$(cat "$dir/said")"
+
+# Usage, and reads and writes that fail.
+relay
+same 'no address' 2 "$status"
+relay 10.0.0.256
+same 'no such address' 2 "$status"
+relay --help
+same 'help' 0 "$status"
+status=0
+"$x86" run "$hut" 10.0.0.9 <"$dir" >"$dir/out" 2>"$dir/said" || status=$?
+same 'a directory' '1 hut: reading failed: Is a directory' "$status $(head -n 1 "$dir/said")"
+status=0
+"$x86" run "$hut" 10.0.0.9 <&- >"$dir/out" 2>"$dir/said" || status=$?
+same 'closed input' '1 hut: reading failed: Bad file descriptor' "$status $(head -n 1 "$dir/said")"
+if [ -w /dev/full ]; then
+    status=0
+    "$x86" run "$hut" 10.0.0.9 <"$dir/in" >/dev/full 2>"$dir/said" || status=$?
+    same 'a full disk' '1 hut: writing failed: No space left on device' "$status $(head -n 1 "$dir/said")"
+fi
+
+echo "hut: $checks checks, $failed failed"
+[ "$failed" -eq 0 ]

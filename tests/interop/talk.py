@@ -1,0 +1,63 @@
+"""Makes the kernel send UDP and TCP packets, between two network namespaces.
+
+talk.py serve: answers each datagram and each connection with what it got, until it is ended.
+talk.py ask ADDRESS..: sends so much to each address, and sees that it comes back.
+"""
+import random
+import selectors
+import socket
+import sys
+
+PORT = 40404
+SO_NO_CHECK = 11  # Linux: send UDP over IPv4 without a sum
+SIZES = [0, 1, 2, 3, 4, 5, 7, 8, 15, 16, 31, 32, 63, 64, 100, 255, 256, 511, 512, 999, 1000, 1400]
+
+
+def serve():
+    picker = selectors.DefaultSelector()
+    for kind in (socket.SOCK_DGRAM, socket.SOCK_STREAM):
+        s = socket.socket(socket.AF_INET6, kind)
+        s.setsockopt(socket.IPPROTO_IPV6, socket.IPV6_V6ONLY, 0)
+        s.bind(("::", PORT))
+        if kind == socket.SOCK_STREAM:
+            s.listen()
+        picker.register(s, selectors.EVENT_READ)
+    print("ready", flush=True)
+    while True:
+        for key, _ in picker.select():
+            if key.fileobj.type == socket.SOCK_DGRAM:
+                data, peer = key.fileobj.recvfrom(2048)
+                key.fileobj.sendto(data, peer)
+            else:
+                with key.fileobj.accept()[0] as connection:
+                    while data := connection.recv(2048):
+                        connection.sendall(data)
+
+
+def ask(address):
+    family = socket.AF_INET6 if ":" in address else socket.AF_INET
+    rng = random.Random(1)
+    for summed in (True, False) if family == socket.AF_INET else (True,):
+        with socket.socket(family, socket.SOCK_DGRAM) as s:
+            s.settimeout(5)
+            if not summed:
+                s.setsockopt(socket.SOL_SOCKET, SO_NO_CHECK, 1)
+            for size in SIZES:
+                data = rng.randbytes(size)
+                s.sendto(data, (address, PORT))
+                assert s.recv(2048) == data
+    with socket.create_connection((address, PORT), timeout=5) as s:
+        for size in SIZES[1:]:
+            data = rng.randbytes(size)
+            s.sendall(data)
+            back = b""
+            while len(back) < size:
+                back += s.recv(2048)
+            assert back == data
+
+
+if sys.argv[1] == "serve":
+    serve()
+else:
+    for each in sys.argv[2:]:
+        ask(each)

@@ -1,0 +1,177 @@
+// The case format (CASES.md) and the answer to each case.
+
+use crate::capture::{judge_capture, printed};
+use crate::edit::{lower_lifetime, set_address, set_stretch};
+use crate::judge::judge;
+use crate::mend::mend;
+use crate::sums::{self, field, fold, partial, total, total_at, Field, Fold, Partial};
+use crate::verdict::{Verdict, GOOD};
+use std::io::{self, Read};
+
+pub const JUDGE: u8 = 0;
+pub const MEND: u8 = 1;
+pub const LIFETIME: u8 = 2;
+pub const ADDRESS: u8 = 3;
+pub const STRETCH: u8 = 4;
+pub const CAPTURE: u8 = 5;
+pub const CHAIN: u8 = 6;
+pub const PARTIAL: u8 = 7;
+pub const FOLD_AT: u8 = 8;
+pub const FIELD: u8 = 9;
+pub const UPDATE: u8 = 10;
+pub const JOIN: u8 = 11;
+pub const PRINTED: u8 = 12;
+
+/// The operations' names, by number.
+#[rustfmt::skip]
+pub const OPERATIONS: [&str; 13] = [
+    "judge", "mend", "lower lifetime", "set address", "set stretch", "judge capture", "chain", "partial sum",
+    "fold at a position", "field", "update", "join", "printed lines",
+];
+
+/// Payload one is the buffer.
+pub const GIVEN: u8 = 0;
+/// The buffer is what the case before left.
+pub const LEFT: u8 = 1;
+/// The buffer is the last one given, as it was given.
+pub const AGAIN: u8 = 2;
+
+pub const LARGEST: usize = 131_072;
+pub const HEAD: usize = 18;
+pub const FILL: u8 = 0xA5;
+pub const BAD_CASE: &str = "bad case\n";
+
+pub struct Case {
+    pub operation: u8,
+    pub source: u8,
+    pub number: u64,
+    pub one: Vec<u8>,
+    pub two: Vec<u8>,
+}
+
+/// What comes next in a file of cases.
+pub enum Next {
+    Case(Case),
+    Bad,
+    End,
+}
+
+impl Case {
+    pub fn to_bytes(&self) -> Vec<u8> {
+        let mut bytes = vec![self.operation, self.source];
+        bytes.extend(self.number.to_be_bytes());
+        bytes.extend((self.one.len() as u32).to_be_bytes());
+        bytes.extend((self.two.len() as u32).to_be_bytes());
+        bytes.extend(&self.one);
+        bytes.extend(&self.two);
+        bytes
+    }
+
+    pub fn read(input: &mut impl Read) -> io::Result<Next> {
+        let head = take(input, HEAD)?;
+        if head.is_empty() {
+            return Ok(Next::End);
+        }
+        if head.len() < HEAD {
+            return Ok(Next::Bad);
+        }
+        let (operation, source, number) = (head[0], head[1], whole(&head[2..10]));
+        let (size_one, size_two) = (whole(&head[10..14]) as usize, whole(&head[14..18]) as usize);
+        let unknown = operation > PRINTED || source > AGAIN;
+        let too_large = size_one > LARGEST || size_two > LARGEST || (operation == CAPTURE && number > LARGEST as u64);
+        if unknown || too_large {
+            return Ok(Next::Bad);
+        }
+        let (one, two) = (take(input, size_one)?, take(input, size_two)?);
+        if one.len() < size_one || two.len() < size_two {
+            return Ok(Next::Bad);
+        }
+        Ok(Next::Case(Case { operation, source, number, one, two }))
+    }
+}
+
+/// The next bytes of the input, fewer only at its end.
+fn take(input: &mut impl Read, size: usize) -> io::Result<Vec<u8>> {
+    let mut bytes = Vec::new();
+    input.take(size as u64).read_to_end(&mut bytes)?;
+    Ok(bytes)
+}
+
+/// A big-endian whole number.
+fn whole(bytes: &[u8]) -> u64 {
+    bytes.iter().fold(0, |number, byte| number * 256 + u64::from(*byte))
+}
+
+/// A digest of all bytes and their order.
+pub fn digest(bytes: &[u8]) -> u64 {
+    bytes.iter().fold(0, |h, byte| (h * 257 + u64::from(*byte) + 1) % 4_294_967_291)
+}
+
+/// The buffers that cases share: the present one, and the last that was given.
+#[derive(Default)]
+pub struct Desk {
+    pub buffer: Vec<u8>,
+    given: Vec<u8>,
+}
+
+impl Desk {
+    /// Makes the case's buffer the present one.
+    pub fn lay(&mut self, case: &Case) {
+        match case.source {
+            GIVEN => {
+                self.given = case.one.clone();
+                self.buffer = case.one.clone();
+            }
+            AGAIN => self.buffer = self.given.clone(),
+            _ => {}
+        }
+    }
+
+    /// The answer to the case whose buffer is laid: its lines, each with its newline.
+    pub fn answer(&mut self, case: &Case) -> String {
+        let (number, two) = (case.number, &case.two[..]);
+        let bits = |low: u32| (number >> low) as u16;
+        match case.operation {
+            JUDGE => format!("{}\n", judge(&self.buffer)),
+            MEND => self.edited(mend),
+            LIFETIME => self.edited(lower_lifetime),
+            ADDRESS => self.edited(|packet| set_address(packet, number as u32, two)),
+            STRETCH => self.edited(|packet| set_stretch(packet, number, two)),
+            CAPTURE => self.capture(number as usize),
+            CHAIN => self.chain(two),
+            PARTIAL => summed(partial(&self.buffer)),
+            FOLD_AT => format!("{}\n", fold(total_at(number as usize, &self.buffer)).0),
+            FIELD => format!("{}\n", field(fold(total(&self.buffer))).0),
+            UPDATE => format!("{}\n", sums::update(Field(bits(32)), Fold(bits(16)), Fold(bits(0))).0),
+            JOIN => {
+                let a = Partial { fold: Fold(bits(32)), odd: bits(17) & 1 == 1 };
+                let b = Partial { fold: Fold(bits(0)), odd: bits(16) & 1 == 1 };
+                summed(sums::join(a, b))
+            }
+            _ => printed(&self.buffer),
+        }
+    }
+
+    fn edited(&mut self, edit: impl Fn(&mut [u8]) -> Verdict) -> String {
+        let verdict = edit(&mut self.buffer);
+        format!("{verdict} {}\n", digest(&self.buffer))
+    }
+
+    fn capture(&self, places: usize) -> String {
+        let mut verdicts = vec![FILL; places];
+        let (verdict, count) = judge_capture(&self.buffer, &mut verdicts);
+        format!("{verdict} {count} {}\n", digest(&verdicts))
+    }
+
+    fn chain(&self, list: &[u8]) -> String {
+        let list: Vec<u32> = list.chunks(4).map(|number| whole(number) as u32).collect();
+        match sums::chain(&self.buffer, &list) {
+            Ok(sum) => format!("{GOOD} {}", summed(sum)),
+            Err(refusal) => format!("{refusal} 0 0\n"),
+        }
+    }
+}
+
+fn summed(sum: Partial) -> String {
+    format!("{} {}\n", sum.fold.0, u8::from(sum.odd))
+}

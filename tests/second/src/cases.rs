@@ -1,0 +1,98 @@
+// The generator: the stored cases, whose coverage is checked, and fresh random ones without end.
+
+mod captures;
+mod corners;
+mod packets;
+mod sums;
+
+use crate::answer::*;
+use crate::cover::Cover;
+use crate::draft::{Shape, KINDS};
+use crate::random::Random;
+use std::io::{self, Write};
+
+/// Makes cases one after the other, from one run of random numbers.
+struct Maker {
+    random: Random,
+    bytes: Vec<u8>,
+    count: u64,
+    desk: Desk,
+    cover: Option<Cover>,
+}
+
+impl Maker {
+    fn new(seed: u64, cover: Option<Cover>) -> Self {
+        Maker { random: Random(seed), bytes: Vec::new(), count: 0, desk: Desk::default(), cover }
+    }
+
+    fn add(&mut self, case: Case) {
+        self.bytes.extend(case.to_bytes());
+        self.count += 1;
+        if let Some(cover) = &mut self.cover {
+            self.desk.lay(&case);
+            let before = self.desk.buffer.clone();
+            let answer = self.desk.answer(&case);
+            cover.note(&case, &before, &self.desk.buffer, &answer);
+        }
+    }
+
+    /// A case that gives its buffer.
+    fn given(&mut self, operation: u8, number: u64, one: &[u8], two: &[u8]) {
+        self.add(Case { operation, source: GIVEN, number, one: one.to_vec(), two: two.to_vec() });
+    }
+
+    /// A case on the buffer that was last given.
+    fn again(&mut self, operation: u8, number: u64, two: &[u8]) {
+        self.add(Case { operation, source: AGAIN, number, one: Vec::new(), two: two.to_vec() });
+    }
+
+    /// A case on what the case before left.
+    fn left(&mut self, operation: u8, number: u64, two: &[u8]) {
+        self.add(Case { operation, source: LEFT, number, one: Vec::new(), two: two.to_vec() });
+    }
+
+    fn any_kind(&mut self) -> (u8, u8) {
+        self.random.pick(&KINDS)
+    }
+
+    /// A good packet, mostly small.
+    fn any_good(&mut self, kind: (u8, u8)) -> Vec<u8> {
+        let longest = self.random.pick(&[8, 24, 24, 24, 60]);
+        let body = self.random.between(0, longest);
+        Shape::any(kind, body, &mut self.random).good(&mut self.random)
+    }
+}
+
+/// The stored cases and their number; an error if they don't reach what they must.
+pub fn stored(seed: u64) -> Result<(Vec<u8>, u64), String> {
+    let mut maker = Maker::new(seed, Some(Cover::default()));
+    maker.sums();
+    maker.packets();
+    maker.corners();
+    maker.captures();
+    if let Some(cover) = &maker.cover {
+        cover.check()?;
+    }
+    Ok((maker.bytes, maker.count))
+}
+
+/// Fresh random cases, a few more than `count` at most.
+pub fn fuzz(seed: u64, count: u64, out: &mut impl Write) -> io::Result<()> {
+    let mut maker = Maker::new(seed, None);
+    while maker.count < count {
+        match maker.random.between(0, 11) {
+            0 => maker.any_sums(),
+            1 => maker.any_chain(),
+            2 => maker.any_capture(),
+            3 => maker.any_rubbish(),
+            4 => maker.any_corner(),
+            5 => maker.any_blank(),
+            6 => maker.any_long(),
+            7 | 8 => maker.any_sequence(),
+            _ => maker.any_faults(),
+        }
+        out.write_all(&maker.bytes)?;
+        maker.bytes.clear();
+    }
+    out.flush()
+}

@@ -1,0 +1,458 @@
+// What the stored cases must reach, and the check that they do. Each thing reached is a line of plain words.
+
+use crate::answer::*;
+use crate::capture::{edition_wrong, mark_wrong, whole_records};
+use crate::draft::KINDS;
+use crate::edit;
+use crate::judge::{JUDGED, RULES};
+use crate::mend;
+use crate::packet::{View, HEADER_FIELD, ICMP, ICMPV6, TCP, UDP};
+use crate::verdict::*;
+use std::collections::BTreeSet;
+
+#[derive(Default)]
+pub struct Cover {
+    /// The verdicts of each operation; these must be those the paper makes possible, and no others.
+    verdicts: BTreeSet<String>,
+    /// All else that was reached; there may be more than is wanted.
+    reached: BTreeSet<String>,
+    /// Whether the case before was an edit, and its verdict.
+    edited: Option<Verdict>,
+}
+
+/// A rule that applies, or could: its name and number.
+type Named = (&'static str, Verdict);
+
+impl Cover {
+    /// Takes note of a case, its buffer before and after, and its answer.
+    pub fn note(&mut self, case: &Case, before: &[u8], after: &[u8], answer: &str) {
+        let first = answer.split([' ', '\n']).next().and_then(|word| word.parse().ok());
+        self.reach(OPERATIONS[case.operation as usize].to_string());
+        match case.operation {
+            JUDGE..=STRETCH => self.note_packet(case, before, after, first.unwrap_or(u8::MAX)),
+            CAPTURE | PRINTED => self.note_capture(case, before, answer),
+            CHAIN => self.note_chain(case, before, answer),
+            UPDATE => self.reach(format!("update to {}", answer.trim_end())),
+            JOIN => self.reach(format!("join of odd {:02b}", case.number >> 16 & 3)),
+            _ => self.reach(format!("{} of {} bytes", OPERATIONS[case.operation as usize], before.len())),
+        }
+    }
+
+    /// An error that names the first things missing, or a verdict that no rule allows.
+    pub fn check(&self) -> Result<(), String> {
+        let wanted = wanted_verdicts();
+        if let Some(line) = self.verdicts.difference(&wanted).next() {
+            return Err(format!("the paper makes this impossible: {line}"));
+        }
+        let missing: Vec<String> = wanted
+            .difference(&self.verdicts)
+            .cloned()
+            .chain(wanted_else().difference(&self.reached).cloned())
+            .collect();
+        match missing.len() {
+            0 => Ok(()),
+            n => Err(format!("{n} things aren't reached, such as:\n{}", missing[..n.min(20)].join("\n"))),
+        }
+    }
+
+    fn reach(&mut self, line: String) {
+        self.reached.insert(line);
+    }
+
+    fn note_packet(&mut self, case: &Case, before: &[u8], after: &[u8], verdict: Verdict) {
+        let operation = OPERATIONS[case.operation as usize];
+        let view = View::new(before);
+        self.verdicts.insert(format!("{operation} of {}: {verdict}", family_name(before)));
+        let families: &[u8] = match view.family {
+            4 => &[4],
+            6 => &[6],
+            _ => &[4, 6],
+        };
+        for family in families {
+            let applying = rules_that_apply(case, &View::read_as(before, *family));
+            for (a, b) in pairs(&applying).iter().filter(|(a, _)| *a == applying[0]) {
+                self.reach(format!("{operation} of IPv{family}: {} before {}", a.0, b.0));
+            }
+        }
+        if let (JUDGE, LEFT, Some(edit_verdict)) = (case.operation, case.source, self.edited) {
+            self.reach(format!("judge after an edit's {edit_verdict}"));
+        }
+        self.edited = (LIFETIME..=STRETCH).contains(&case.operation).then_some(verdict);
+        if before.len() > view.end() && verdict == GOOD {
+            self.reach(format!("{operation} of IPv{}: a tail", view.family));
+        }
+        match case.operation {
+            JUDGE => self.note_judged(&view, verdict),
+            MEND if verdict == GOOD => self.note_fields(case, &View::new(after), true, true),
+            LIFETIME if verdict == GOOD => self.note_fields(case, &View::new(after), true, false),
+            ADDRESS => self.note_address(case, &view, after, verdict),
+            STRETCH => self.note_stretch(case, &view, after, verdict),
+            _ => {}
+        }
+    }
+
+    fn note_judged(&mut self, view: &View, verdict: Verdict) {
+        self.reach(format!("judge of {} bytes", view.bytes.len()));
+        if view.protocol() == TCP && view.bytes.len() >= view.end() {
+            self.reach(format!("TCP in IPv{}: data offset {}, verdict {verdict}", view.family, view.data_offset()));
+        }
+        if verdict == GOOD || verdict == UNSUMMED {
+            self.reach(format!("good: {} bytes", view.end()));
+            self.reach(format!("good: IPv{}, header {}", view.family, view.header_length()));
+            self.reach(format!("good: {}, body {}", kind_name(view.kind()), view.body_length()));
+        }
+        if view.protocol() == UDP {
+            let field = view.word(view.field_place());
+            self.reach(format!("UDP in IPv{}: stored {field:04X}, verdict {verdict}", view.family));
+        }
+        if view.bytes.len() > view.end() + 65_575 && verdict == GOOD {
+            self.reach(format!("good: IPv{}, a tail longer than any packet", view.family));
+        }
+    }
+
+    /// The fields that an operation has just written, if they stand at a corner.
+    fn note_fields(&mut self, case: &Case, after: &View, header: bool, message: bool) {
+        let operation = OPERATIONS[case.operation as usize];
+        let (header_field, message_field) = (after.word(HEADER_FIELD), after.word(after.field_place()));
+        if header && after.family == 4 {
+            self.reach(format!("{operation}: IPv4 header field {header_field:04X}"));
+        }
+        if message {
+            self.reach(format!("{operation}: {} field {message_field:04X}", kind_name(after.kind())));
+        }
+    }
+
+    fn note_address(&mut self, case: &Case, before: &View, after: &[u8], verdict: Verdict) {
+        self.reach(format!("side {}: {verdict}", case.number));
+        self.reach(format!("address of {} bytes in IPv{}: {verdict}", case.two.len(), before.family));
+        if verdict != GOOD {
+            return;
+        }
+        let place = before.address_place(case.number as usize);
+        if before.bytes[place..].starts_with(&case.two) {
+            self.reach(format!("{}: the same address again", kind_name(before.kind())));
+        }
+        self.note_fields(case, &View::new(after), true, !before.pseudo_header().is_empty());
+    }
+
+    fn note_stretch(&mut self, case: &Case, before: &View, after: &[u8], verdict: Verdict) {
+        let (place, length, body) = (case.number, case.two.len(), before.body_length() as u64);
+        let kind = kind_name(before.kind());
+        if length == 0 && place.wrapping_sub(body) <= 1 {
+            self.reach(format!("{kind}: empty stretch {} past the body: {verdict}", place - body));
+        }
+        if place > u64::MAX - 20 && place.checked_add(length as u64).is_none() {
+            self.reach(format!("{kind}: stretch past the largest number: {verdict}"));
+        }
+        if verdict != GOOD || length == 0 {
+            return;
+        }
+        let parity = |number: u64| if number % 2 == 0 { "even" } else { "odd" };
+        self.reach(format!("{kind}: stretch at {} place, {} length", parity(place), parity(length as u64)));
+        let start = before.header_length() + before.body_offset() + place as usize;
+        if before.bytes[start..].starts_with(&case.two) {
+            self.reach(format!("{kind}: the same stretch again"));
+        }
+        self.note_fields(case, &View::new(after), false, true);
+    }
+
+    fn note_capture(&mut self, case: &Case, capture: &[u8], answer: &str) {
+        if case.operation == PRINTED {
+            let last: Vec<&str> = answer.lines().last().unwrap_or("").split(' ').collect();
+            self.reach(if last[0] == "stopped" {
+                format!("printed: stopped {}", last[1])
+            } else {
+                "printed: totals".into()
+            });
+            return;
+        }
+        let (records, damaged) = whole_records(capture);
+        let (count, places) = (records.len() as u64, case.number);
+        self.verdicts.insert(format!("judge capture: {}", answer.split(' ').next().unwrap_or("")));
+        let tests = [
+            ("mark", mark_wrong(capture)),
+            ("edition", edition_wrong(capture)),
+            ("record", damaged),
+            ("room", count > places),
+        ];
+        let applying: Vec<Named> =
+            tests.into_iter().zip(MARK..).filter(|(test, _)| test.1).map(|(test, number)| (test.0, number)).collect();
+        for (a, b) in pairs(&applying).iter().filter(|(a, _)| *a == applying[0]) {
+            self.reach(format!("judge capture: {} before {}", a.0, b.0));
+        }
+        if applying.is_empty() {
+            self.reach(format!("judge capture: {} room", if places == count { "exact" } else { "more" }));
+            for record in records {
+                self.reach(format!("record of {} bytes", record.len()));
+                self.reach(format!("record with verdict {}", crate::judge::judge(record)));
+            }
+        }
+    }
+
+    fn note_chain(&mut self, case: &Case, buffer: &[u8], answer: &str) {
+        self.verdicts.insert(format!("chain: {}", answer.split(' ').next().unwrap_or("")));
+        let numbers: Vec<u64> =
+            case.two.chunks(4).map(|n| u32::from_be_bytes([n[0], n[1], n[2], n[3]]).into()).collect();
+        let pieces: Vec<(u64, u64)> = numbers.chunks_exact(2).map(|piece| (piece[0], piece[1])).collect();
+        let size = buffer.len() as u64;
+        let found = [
+            ("empty list", numbers.is_empty()),
+            ("odd list", numbers.len() % 2 == 1),
+            ("odd list, a piece outside", numbers.len() % 2 == 1 && pieces.iter().any(|(o, l)| o + l > size)),
+            ("a piece outside", pieces.iter().any(|(o, l)| o + l > size)),
+            ("passes 32 bits", pieces.iter().any(|(o, l)| o + l > u32::MAX.into())),
+            ("empty at the end", pieces.contains(&(size, 0))),
+            ("empty past the end", pieces.contains(&(size + 1, 0))),
+            ("all of it", pieces.contains(&(0, size))),
+            ("odd then odd", pieces.windows(2).any(|two| two[0].1 % 2 == 1 && two[1].1 % 2 == 1)),
+            ("overlap", pieces.windows(2).any(|two| two[0].0 < two[1].0 && two[1].0 < two[0].0 + two[0].1)),
+            ("repeat", pieces.windows(2).any(|two| two[0].1 > 0 && two[0] == two[1])),
+            ("good, then outside", pieces.len() > 1 && pieces[0].0 + pieces[0].1 <= size && answer.starts_with("10")),
+        ];
+        for (name, _) in found.into_iter().filter(|(_, holds)| *holds) {
+            let verdict = answer.split(' ').next().unwrap_or("");
+            self.reach(format!("chain: {name}: {verdict}"));
+        }
+    }
+}
+
+fn family_name(packet: &[u8]) -> &'static str {
+    match packet.first().map(|byte| byte >> 4) {
+        None => "no bytes",
+        Some(4) => "IPv4",
+        Some(6) => "IPv6",
+        Some(_) => "another version",
+    }
+}
+
+fn kind_name((family, protocol): (u8, u8)) -> String {
+    let name = match protocol {
+        ICMP => "ICMP",
+        TCP => "TCP",
+        UDP => "UDP",
+        ICMPV6 => "ICMPv6",
+        _ => "another protocol",
+    };
+    format!("{name} in IPv{family}")
+}
+
+/// The rules an operation looks at.
+fn looked_at(operation: u8) -> impl Iterator<Item = &'static crate::judge::Rule> {
+    let numbers: &[Verdict] = match operation {
+        JUDGE => &JUDGED,
+        MEND => &mend::REFUSED,
+        _ => &edit::REFUSED,
+    };
+    RULES.iter().filter(move |rule| numbers.contains(&rule.number))
+}
+
+/// Every refusal of a case that applies by itself, in order.
+fn rules_that_apply(case: &Case, view: &View) -> Vec<Named> {
+    let mut applying: Vec<Named> =
+        looked_at(case.operation).filter(|rule| (rule.applies)(view)).map(|rule| (rule.name, rule.number)).collect();
+    let own = match case.operation {
+        LIFETIME => vec![edit::spent(view)],
+        ADDRESS => vec![edit::no_side(case.number), edit::address_misfit(view, &case.two)],
+        STRETCH => vec![edit::stretch_misfit(view, case.number, &case.two), edit::blank(view, case.number, &case.two)],
+        _ => vec![],
+    };
+    applying.extend(own_rules(case.operation).iter().zip(own).filter(|(_, applies)| *applies).map(|(rule, _)| *rule));
+    applying
+}
+
+/// The refusals that are an edit's own, in order.
+fn own_rules(operation: u8) -> &'static [Named] {
+    match operation {
+        LIFETIME => &[("spent", SPENT)],
+        ADDRESS => &[("side", PLACE), ("address length", PLACE)],
+        STRETCH => &[("stretch", PLACE), ("blank", BLANK)],
+        _ => &[],
+    }
+}
+
+/// All pairs, in order, of rules whose numbers differ.
+fn pairs(rules: &[Named]) -> Vec<(Named, Named)> {
+    let mut pairs = Vec::new();
+    for (i, a) in rules.iter().enumerate() {
+        pairs.extend(rules[i + 1..].iter().filter(|b| b.1 != a.1).map(|b| (*a, *b)));
+    }
+    pairs
+}
+
+/// Whether a family has this rule at all.
+fn in_family(rule: &str, family: u8) -> bool {
+    match rule {
+        "header length" | "total length" | "header sum" | "fragment" | "zero in IPv4" | "blank" => family == 4,
+        "zero in IPv6" => family == 6,
+        _ => true,
+    }
+}
+
+/// Whether two rules can apply at once. Without bytes there is nothing else to be wrong but the version and what
+/// the caller gives. The protocols of the later rules are in the table. Only ICMP can be blank.
+fn can_meet(a: &str, b: &str) -> bool {
+    match a {
+        "no bytes" => ["version", "spent", "side", "address length", "stretch"].contains(&b),
+        "protocol" => !["TCP or UDP length", "zero in IPv6", "zero in IPv4", "blank"].contains(&b),
+        "TCP or UDP length" => b != "blank",
+        _ => true,
+    }
+}
+
+/// The verdicts that the paper makes possible.
+fn wanted_verdicts() -> BTreeSet<String> {
+    let mut wanted = BTreeSet::new();
+    for operation in JUDGE..=STRETCH {
+        let name = OPERATIONS[operation as usize];
+        wanted.insert(format!("{name} of no bytes: {CUT}"));
+        wanted.insert(format!("{name} of another version: {VERSION}"));
+        for family in [4, 6] {
+            wanted.insert(format!("{name} of IPv{family}: {GOOD}"));
+            let rules = looked_at(operation).map(|rule| (rule.name, rule.number));
+            for (rule, number) in rules.chain(own_rules(operation).iter().copied()) {
+                if in_family(rule, family) && number != VERSION {
+                    wanted.insert(format!("{name} of IPv{family}: {number}"));
+                }
+            }
+        }
+    }
+    wanted.extend([GOOD, MARK, EDITION, RECORD, ROOM].map(|number| format!("judge capture: {number}")));
+    wanted.extend([GOOD, PLACE].map(|number| format!("chain: {number}")));
+    wanted
+}
+
+fn wanted_else() -> BTreeSet<String> {
+    let mut wanted: BTreeSet<String> = OPERATIONS.iter().map(|name| name.to_string()).collect();
+    wanted.extend(wanted_pairs());
+    wanted.extend(wanted_lengths());
+    wanted.extend(wanted_fields());
+    wanted.extend(wanted_edits());
+    wanted.extend(wanted_captures());
+    wanted.extend(wanted_sums());
+    wanted
+}
+
+fn wanted_pairs() -> Vec<String> {
+    let mut wanted = Vec::new();
+    for operation in JUDGE..=STRETCH {
+        for family in [4, 6] {
+            let rules: Vec<Named> = looked_at(operation)
+                .map(|rule| (rule.name, rule.number))
+                .chain(own_rules(operation).iter().copied())
+                .filter(|rule| in_family(rule.0, family))
+                .collect();
+            let name = OPERATIONS[operation as usize];
+            let meeting = pairs(&rules).into_iter().filter(|(a, b)| can_meet(a.0, b.0));
+            wanted.extend(meeting.map(|(a, b)| format!("{name} of IPv{family}: {} before {}", a.0, b.0)));
+        }
+    }
+    wanted
+}
+
+fn wanted_lengths() -> Vec<String> {
+    let mut wanted = Vec::new();
+    for length in 0..=100 {
+        wanted.push(format!("judge of {length} bytes"));
+        wanted.extend(KINDS.map(|kind| format!("good: {}, body {length}", kind_name(kind))));
+        for operation in [PARTIAL, FOLD_AT, FIELD] {
+            wanted.push(format!("{} of {length} bytes", OPERATIONS[operation as usize]));
+        }
+    }
+    wanted.extend([65_535, 65_575].map(|length| format!("good: {length} bytes")));
+    for family in [4, 6] {
+        wanted.push(format!("good: IPv{family}, a tail longer than any packet"));
+        wanted.extend((JUDGE..=STRETCH).map(|op| format!("{} of IPv{family}: a tail", OPERATIONS[op as usize])));
+        wanted.extend((5..16).map(|offset| format!("TCP in IPv{family}: data offset {offset}, verdict {GOOD}")));
+        wanted.extend((0..5).map(|offset| format!("TCP in IPv{family}: data offset {offset}, verdict {SHAPE}")));
+        wanted.extend((6..16).map(|offset| format!("TCP in IPv{family}: data offset {offset}, verdict {SHAPE}")));
+    }
+    wanted.extend((5..16).map(|words| format!("good: IPv4, header {}", 4 * words)));
+    wanted
+}
+
+fn wanted_fields() -> Vec<String> {
+    let mut wanted: Vec<String> = [
+        "mend: IPv4 header field 0000",
+        "lower lifetime: IPv4 header field 0000",
+        "set address: IPv4 header field 0000",
+        "set address: IPv4 header field FFFF",
+        "mend: ICMP in IPv4 field FFFF",
+        "set address: UDP in IPv4 field 0000",
+        "set stretch: UDP in IPv4 field 0000",
+        "mend: UDP in IPv4 field 0000",
+        "update to 0",
+        "update to 65535",
+    ]
+    .map(String::from)
+    .to_vec();
+    for kind in KINDS {
+        let (name, udp) = (kind_name(kind), kind.1 == UDP);
+        wanted.push(format!("mend: {name} field {}", if udp { "FFFF" } else { "0000" }));
+        for operation in [ADDRESS, STRETCH] {
+            let touched = operation == STRETCH || kind.1 != ICMP;
+            let fields = if udp { vec!["FFFF"] } else { vec!["0000", "FFFF"] };
+            let lines = fields.iter().map(|field| format!("{}: {name} field {field}", OPERATIONS[operation as usize]));
+            wanted.extend(lines.filter(|_| touched));
+        }
+    }
+    for (family, zero) in [(4, UNSUMMED), (6, MISSING)] {
+        wanted.push(format!("UDP in IPv{family}: stored 0000, verdict {zero}"));
+        wanted.push(format!("UDP in IPv{family}: stored FFFF, verdict {GOOD}"));
+        wanted.push(format!("UDP in IPv{family}: stored FFFF, verdict {MESSAGE_SUM}"));
+    }
+    wanted
+}
+
+fn wanted_edits() -> Vec<String> {
+    let mut wanted = Vec::new();
+    for kind in KINDS {
+        let name = kind_name(kind);
+        wanted.push(format!("{name}: empty stretch 0 past the body: {GOOD}"));
+        wanted.push(format!("{name}: empty stretch 1 past the body: {PLACE}"));
+        wanted.push(format!("{name}: stretch past the largest number: {PLACE}"));
+        wanted.push(format!("{name}: the same stretch again"));
+        wanted.push(format!("{name}: the same address again"));
+        for (place, length) in [("even", "even"), ("even", "odd"), ("odd", "even"), ("odd", "odd")] {
+            wanted.push(format!("{name}: stretch at {place} place, {length} length"));
+        }
+    }
+    for (side, verdict) in [(0, GOOD), (1, GOOD), (2, PLACE), (u32::MAX, PLACE)] {
+        wanted.push(format!("side {side}: {verdict}"));
+    }
+    for (family, right) in [(4, 4), (6, 16)] {
+        for length in 0..=20 {
+            let verdict = if length == right { GOOD } else { PLACE };
+            wanted.push(format!("address of {length} bytes in IPv{family}: {verdict}"));
+        }
+    }
+    wanted.extend([GOOD, PLACE, SPENT, BLANK].map(|verdict| format!("judge after an edit's {verdict}")));
+    wanted
+}
+
+fn wanted_captures() -> Vec<String> {
+    let mut wanted = vec!["printed: totals".to_string()];
+    wanted.extend([MARK, EDITION, RECORD].map(|verdict| format!("printed: stopped {verdict}")));
+    let tests = [("mark", MARK), ("edition", EDITION), ("record", RECORD), ("room", ROOM)];
+    wanted.extend(pairs(&tests).iter().map(|(a, b)| format!("judge capture: {} before {}", a.0, b.0)));
+    wanted.extend(["exact", "more"].map(|room| format!("judge capture: {room} room")));
+    wanted.extend([0, 2048].map(|length| format!("record of {length} bytes")));
+    wanted.extend((GOOD..=MESSAGE_SUM).map(|verdict| format!("record with verdict {verdict}")));
+    wanted
+}
+
+fn wanted_sums() -> Vec<String> {
+    let mut wanted: Vec<String> = (0..4).map(|odd| format!("join of odd {odd:02b}")).collect();
+    for good in ["empty list", "empty at the end", "all of it", "odd then odd", "overlap", "repeat"] {
+        wanted.push(format!("chain: {good}: {GOOD}"));
+    }
+    let refused = [
+        "odd list",
+        "odd list, a piece outside",
+        "a piece outside",
+        "passes 32 bits",
+        "empty past the end",
+        "good, then outside",
+    ];
+    wanted.extend(refused.map(|name| format!("chain: {name}: {PLACE}")));
+    wanted
+}

@@ -1,0 +1,246 @@
+// Packets for the cases: good ones of any shape, and faults put into them.
+
+use crate::mend::{computed_message_field, fresh_header_field, fresh_message_field, write_field};
+use crate::packet::{View, HEADER_FIELD, ICMP, ICMPV6, TABLE, TCP, UDP};
+use crate::random::Random;
+use crate::sums::Field;
+
+/// Every family with its protocols.
+pub const KINDS: [(u8, u8); 6] = [(4, ICMP), (4, TCP), (4, UDP), (6, TCP), (6, UDP), (6, ICMPV6)];
+
+/// What a good packet looks like: lengths in bytes, the IPv4 header length and TCP's data offset in words.
+#[derive(Clone, Copy)]
+pub struct Shape {
+    pub family: u8,
+    pub protocol: u8,
+    pub words: usize,
+    pub offset: usize,
+    pub body: usize,
+    pub tail: usize,
+}
+
+impl Shape {
+    /// No options and no tail.
+    pub fn plain((family, protocol): (u8, u8), body: usize) -> Self {
+        Shape { family, protocol, words: 5, offset: 5, body, tail: 0 }
+    }
+
+    /// Perhaps options, perhaps a tail.
+    pub fn any(kind: (u8, u8), body: usize, random: &mut Random) -> Self {
+        let mut shape = Shape::plain(kind, body);
+        if random.once_in(2) {
+            shape.words = random.between(5, 15);
+        }
+        if random.once_in(2) {
+            shape.offset = random.between(5, 15);
+        }
+        if random.once_in(2) {
+            shape.tail = random.between(1, 9);
+        }
+        shape
+    }
+
+    /// The bytes of the headers in this shape.
+    pub fn headers(&self) -> usize {
+        let header = if self.family == 4 { 4 * self.words } else { 40 };
+        header + self.before_body()
+    }
+
+    fn before_body(&self) -> usize {
+        let fixed = TABLE.iter().find(|row| row.protocol == self.protocol).map_or(0, |row| row.fixed);
+        if self.protocol == TCP {
+            4 * self.offset
+        } else {
+            fixed
+        }
+    }
+
+    /// A good packet of this shape.
+    pub fn good(&self, random: &mut Random) -> Vec<u8> {
+        let length = (self.before_body() + self.body) as u16;
+        let mut packet = if self.family == 4 { self.header4(length, random) } else { self.header6(length, random) };
+        let message = packet.len();
+        packet.extend(random.bytes(self.before_body()));
+        packet.extend(random.contents(self.body));
+        packet.extend(random.contents(self.tail));
+        match self.protocol {
+            TCP => packet[message + 12] = (self.offset << 4) as u8 | random.between(0, 15) as u8,
+            UDP => write_word(&mut packet, message + 4, length),
+            _ => {}
+        }
+        refresh(&mut packet, self.family);
+        packet
+    }
+
+    fn header4(&self, length: u16, random: &mut Random) -> Vec<u8> {
+        let mut header = random.bytes(4 * self.words);
+        header[0] = 0x40 | self.words as u8;
+        let total = header.len() as u16 + length;
+        write_word(&mut header, 2, total);
+        write_word(&mut header, 6, random.pick(&[0, 0x4000, 0x8000, 0xC000]));
+        header[8] = random.between(2, 255) as u8;
+        header[9] = self.protocol;
+        header
+    }
+
+    fn header6(&self, length: u16, random: &mut Random) -> Vec<u8> {
+        let mut header = random.bytes(40);
+        header[0] = 0x60 | random.between(0, 15) as u8;
+        write_word(&mut header, 4, length);
+        header[6] = self.protocol;
+        header[7] = random.between(2, 255) as u8;
+        header
+    }
+}
+
+pub fn write_word(packet: &mut [u8], place: usize, word: u16) {
+    packet[place..place + 2].copy_from_slice(&word.to_be_bytes());
+}
+
+/// Sets the fields to their fresh values as far as there is room for them, whatever else is wrong.
+pub fn refresh(packet: &mut [u8], family: u8) {
+    let view = View::read_as(packet, family);
+    let place = view.field_place();
+    let room = view.row().is_some_and(|row| view.message().len() >= row.field + 2);
+    if room {
+        let field = fresh_message_field(&view);
+        write_field(packet, place, field);
+    }
+    let view = View::read_as(packet, family);
+    if family == 4 && view.header().len() >= HEADER_FIELD + 2 {
+        let field = fresh_header_field(&view);
+        write_field(packet, HEADER_FIELD, field);
+    }
+}
+
+/// Makes the computed message field 0000 by means of the word at `place`.
+pub fn balance_message(packet: &mut [u8], family: u8, place: usize) {
+    write_word(packet, place, 0);
+    let Field(missing) = computed_message_field(&View::read_as(packet, family));
+    write_word(packet, place, missing);
+    refresh(packet, family);
+}
+
+/// Makes the fresh IPv4 header field 0000 by means of the identification.
+pub fn balance_header(packet: &mut [u8]) {
+    write_word(packet, 4, 0);
+    let Field(missing) = fresh_header_field(&View::read_as(packet, 4));
+    write_word(packet, 4, missing);
+    refresh(packet, 4);
+}
+
+/// A fault, named after the rule it meets.
+#[derive(Clone, Copy, Debug, PartialEq, Eq)]
+pub enum Fault {
+    Spent,
+    InnerLength,
+    MessageLength,
+    Protocol,
+    Fragment,
+    TotalLength,
+    HeaderLength,
+    Blank,
+    Version,
+    Zero,
+    HeaderSum,
+    MessageSum,
+    Declared,
+    Under,
+}
+
+use Fault::*;
+
+/// The faults that the sums are fresh with, in the order of their making.
+const BEFORE_SUMS: [Fault; 9] =
+    [Spent, InnerLength, MessageLength, Protocol, Fragment, TotalLength, HeaderLength, Blank, Version];
+
+/// The faults made when the sums stand, in the order of their making.
+const AFTER_SUMS: [Fault; 5] = [Zero, HeaderSum, MessageSum, Declared, Under];
+
+/// The faults that a packet of this kind can have.
+pub fn faults_of((family, protocol): (u8, u8)) -> Vec<Fault> {
+    let fits = |fault: &Fault| match fault {
+        Fragment | TotalLength | HeaderLength | HeaderSum => family == 4,
+        InnerLength => protocol == TCP || protocol == UDP,
+        Zero => protocol == UDP,
+        Blank => protocol == ICMP || protocol == ICMPV6,
+        _ => true,
+    };
+    BEFORE_SUMS.into_iter().chain(AFTER_SUMS).filter(fits).collect()
+}
+
+/// Puts faults into a good packet.
+pub fn spoil(packet: &mut Vec<u8>, family: u8, faults: &[Fault], random: &mut Random) {
+    for fault in BEFORE_SUMS.iter().filter(|fault| faults.contains(fault)) {
+        put_before_sums(packet, family, *fault, random);
+    }
+    refresh(packet, family);
+    for fault in AFTER_SUMS.iter().filter(|fault| faults.contains(fault)) {
+        put_after_sums(packet, family, *fault, random);
+    }
+}
+
+fn put_before_sums(packet: &mut [u8], family: u8, fault: Fault, random: &mut Random) {
+    let view = View::read_as(packet, family);
+    let (header, end, lifetime, protocol) =
+        (view.header_length(), view.end(), view.lifetime_place(), view.protocol_place());
+    match fault {
+        Blank => packet[header..end.max(header)].fill(0),
+        Spent => packet[lifetime] = random.between(0, 1) as u8,
+        InnerLength => put_inner_length(packet, family, random),
+        MessageLength => {
+            let fixed = view.row().map_or(0, |row| row.fixed);
+            let any = random.between(0, fixed - 1);
+            let length = random.pick(&[0, 3, fixed - 1, any]);
+            let (place, declared) = if family == 4 { (2, header + length) } else { (4, length) };
+            write_word(packet, place, declared as u16);
+        }
+        Protocol if family == 4 => packet[protocol] = random.pick(&[58, 58, 58, 0, 2, 5, 16, 41, 44, 57, 59, 255]),
+        Protocol => packet[protocol] = random.pick(&[1, 1, 1, 0, 2, 5, 16, 43, 44, 57, 59, 60, 255]),
+        Fragment => {
+            let offset = random.pick(&[0, 1, 0x1FFF, 0x1000]);
+            let more = if offset == 0 || random.once_in(2) { 0x2000 } else { 0 };
+            write_word(packet, 6, random.pick(&[0, 0x4000, 0x8000]) | more | offset);
+        }
+        TotalLength => {
+            let low = if header > 21 { random.pick(&[0, 21]) } else { 0 };
+            write_word(packet, 2, random.between(low, header - 1) as u16);
+        }
+        HeaderLength => packet[0] = packet[0] & 0xF0 | random.between(0, 4) as u8,
+        _ => packet[0] = packet[0] & 0x0F | random.pick(&[0, 1, 2, 3, 5, 7, 8, 12, 14, 15]) << 4,
+    }
+}
+
+/// A TCP data offset below 5 or past the message; a UDP length that isn't the message's.
+fn put_inner_length(packet: &mut [u8], family: u8, random: &mut Random) {
+    let view = View::read_as(packet, family);
+    let (message, length) = (view.header_length(), view.message_length());
+    if view.protocol() == TCP {
+        let wrong: Vec<u8> = (0..16).filter(|words| *words < 5 || 4 * usize::from(*words) > length).collect();
+        packet[message + 12] = packet[message + 12] & 0x0F | random.pick(&wrong) << 4;
+    } else {
+        let length = length as u16;
+        let other = random.pick(&[0, 7, 8, 65535, length.wrapping_add(1), length - 1]);
+        write_word(packet, message + 4, if other == length { length + 2 } else { other });
+    }
+}
+
+fn put_after_sums(packet: &mut Vec<u8>, family: u8, fault: Fault, random: &mut Random) {
+    let view = View::read_as(packet, family);
+    let (least, end, field) = (view.least(), view.end(), view.field_place());
+    let message = view.header_length().max(least);
+    match fault {
+        Zero if field + 2 <= packet.len() => write_word(packet, field, 0),
+        HeaderSum => packet[HEADER_FIELD] ^= 1 << random.between(0, 7),
+        MessageSum if message < packet.len() => packet[message] ^= 1 << random.between(0, 7),
+        Declared if end > least => {
+            let any = random.between(least, end - 1);
+            packet.truncate(random.pick(&[end - 1, any]));
+        }
+        Under => {
+            let any = random.between(1, least - 1);
+            packet.truncate(random.pick(&[least - 1, any]));
+        }
+        _ => {}
+    }
+}

@@ -1,0 +1,15 @@
+// The second, independent implementation of the rules paper: written from the paper alone, simple rather than fast.
+// It makes the stored cases, answers them, and holds other answers to its own.
+
+pub mod answer;
+pub mod capture;
+pub mod cases;
+pub mod cover;
+pub mod draft;
+pub mod edit;
+pub mod judge;
+pub mod mend;
+pub mod packet;
+pub mod random;
+pub mod sums;
+pub mod verdict;
