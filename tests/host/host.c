@@ -532,7 +532,7 @@ static void address(void)
 
 static void stretch(void)
 {
-    static const uint8_t new[4] = {0xDE, 0xAD, 0xBE, 0xEF}, zeros[8] = {0};
+    static const uint8_t new[4] = {0xDE, 0xAD, 0xBE, 0xEF}, zeros[8] = {0}, zero_sum[2] = {0x56, 0xB0};
     expect(call(STRETCH, NULL, 0, 0, NULL, 0), 2, "no bytes");
     take_udp();
     put(p + 28, 0x56B0);
@@ -542,6 +542,9 @@ static void stretch(void)
     expect(call(STRETCH, p, 30, 1, new, 1), 0, "one byte at an odd place");
     expect(p[29], 0xDE, "in place");
     expect(judge(p, 30), 0, "judge it");
+    take_udp();
+    expect(call(STRETCH, p, 30, 0, zero_sum, 2), 0, "data 56 B0");
+    expect(word(p + 26), 0xFFFF, "updated to 0000, sent FFFF");
     expect(call(STRETCH, p, 30, 0, new, 3), 10, "too long");
     expect(call(STRETCH, p, 30, 1, new, 2), 10, "too far");
     expect(call(STRETCH, p, 30, 2, NULL, 0), 0, "nothing at the end");
@@ -653,6 +656,7 @@ static void largest(void)
 
 int main(void)
 {
+    setvbuf(stdout, NULL, _IOLBF, 0);
     build(&first);
     build(&second);
     build(&third);

@@ -80,15 +80,15 @@ pub fn stored(seed: u64) -> Result<(Vec<u8>, u64), String> {
 pub fn fuzz(seed: u64, count: u64, out: &mut impl Write) -> io::Result<()> {
     let mut maker = Maker::new(seed, None);
     while maker.count < count {
-        match maker.random.between(0, 11) {
-            0 => maker.any_sums(),
-            1 => maker.any_chain(),
-            2 => maker.any_capture(),
-            3 => maker.any_rubbish(),
-            4 => maker.any_corner(),
-            5 => maker.any_blank(),
-            6 => maker.any_long(),
-            7 | 8 => maker.any_sequence(),
+        match maker.random.between(1, 60) {
+            1 => maker.any_corner(),
+            2 => maker.any_blank(),
+            3..=7 => maker.any_sums(),
+            8..=12 => maker.any_chain(),
+            13..=17 => maker.any_capture(),
+            18..=22 => maker.any_rubbish(),
+            23..=26 => maker.any_long(),
+            27..=36 => maker.any_sequence(),
             _ => maker.any_faults(),
         }
         out.write_all(&maker.bytes)?;

@@ -97,6 +97,13 @@ pub fn write_word(packet: &mut [u8], place: usize, word: u16) {
     packet[place..place + 2].copy_from_slice(&word.to_be_bytes());
 }
 
+/// Declares another message length.
+pub fn declare(packet: &mut [u8], family: u8, length: usize) {
+    let header = View::read_as(packet, family).header_length();
+    let (place, declared) = if family == 4 { (2, header + length) } else { (4, length) };
+    write_word(packet, place, declared as u16);
+}
+
 /// Sets the fields to their fresh values as far as there is room for them, whatever else is wrong.
 pub fn refresh(packet: &mut [u8], family: u8) {
     let view = View::read_as(packet, family);
@@ -192,8 +199,7 @@ fn put_before_sums(packet: &mut [u8], family: u8, fault: Fault, random: &mut Ran
             let fixed = view.row().map_or(0, |row| row.fixed);
             let any = random.between(0, fixed - 1);
             let length = random.pick(&[0, 3, fixed - 1, any]);
-            let (place, declared) = if family == 4 { (2, header + length) } else { (4, length) };
-            write_word(packet, place, declared as u16);
+            declare(packet, family, length);
         }
         Protocol if family == 4 => packet[protocol] = random.pick(&[58, 58, 58, 0, 2, 5, 16, 41, 44, 57, 59, 255]),
         Protocol => packet[protocol] = random.pick(&[1, 1, 1, 0, 2, 5, 16, 43, 44, 57, 59, 60, 255]),

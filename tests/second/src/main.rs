@@ -1,6 +1,6 @@
 // The command line: make cases, answer them, make fresh random ones, and hold given answers to our own.
 
-use second::answer::{Case, Desk, Next, BAD_CASE, OPERATIONS};
+use second::answer::{Case, Desk, Next, BAD_CASE, GIVEN, OPERATIONS};
 use second::cases;
 use std::env;
 use std::fs::File;
@@ -130,21 +130,23 @@ fn open(name: &str) -> Result<BufReader<File>, Failure> {
 
 fn compare(cases: &str, answers: &str) -> Result<(), Failure> {
     let (mut input, mut answers) = (open(cases)?, open(answers)?);
-    let mut desk = Desk::default();
-    for place in 1_u64.. {
-        let Next::Case(case) = Case::read(&mut input)? else {
-            return end_of_cases(place - 1, &mut answers);
+    let (mut desk, mut place) = (Desk::default(), 0);
+    loop {
+        let case = match Case::read(&mut input)? {
+            Next::Case(case) => case,
+            Next::Bad => return Err(Failure::Other(format!("the case after number {place} is malformed"))),
+            Next::End => return end_of_cases(place, &mut answers),
         };
+        place += 1;
         desk.lay(&case);
         let before = desk.buffer.clone();
         for ours in desk.answer(&case).split_inclusive('\n') {
             let theirs = line(&mut answers)?;
             if theirs != ours.as_bytes() {
-                return Err(difference(place, &case, &before, ours, &theirs));
+                return Err(difference(place, case, before, ours, &theirs));
             }
         }
     }
-    Ok(())
 }
 
 fn line(answers: &mut impl BufRead) -> Result<Vec<u8>, Failure> {
@@ -165,17 +167,19 @@ fn end_of_cases(count: u64, answers: &mut impl BufRead) -> Result<(), Failure> {
     Ok(())
 }
 
-fn difference(place: u64, case: &Case, before: &[u8], ours: &str, theirs: &[u8]) -> Failure {
-    let hex = |bytes: &[u8]| bytes.iter().map(|byte| format!("{byte:02X}")).collect::<Vec<_>>().join(" ");
-    Failure::Other(format!(
-        "case {place} is answered otherwise.\noperation {} ({})\nsource {}\nnumber {}\nbuffer {}\npayload two {}\nours {}\ntheirs {}",
-        case.operation,
-        OPERATIONS[case.operation as usize],
-        case.source,
-        case.number,
-        hex(before),
-        hex(&case.two),
-        ours.trim_end(),
-        String::from_utf8_lossy(theirs).trim_end(),
-    ))
+/// Shows a case whose answers differ: in parts, and then whole as a case that gives its own buffer.
+fn difference(place: u64, case: Case, before: Vec<u8>, ours: &str, theirs: &[u8]) -> Failure {
+    let hex = |bytes: &[u8]| bytes.iter().map(|byte| format!("{byte:02X}")).collect::<String>();
+    let lines = [
+        format!("case {place} is answered otherwise"),
+        format!("ours: {}", ours.trim_end()),
+        format!("theirs: {}", String::from_utf8_lossy(theirs).trim_end()),
+        format!("operation: {} ({})", case.operation, OPERATIONS[case.operation as usize]),
+        format!("source: {}", case.source),
+        format!("number: {}", case.number),
+        format!("buffer: {}", hex(&before)),
+        format!("payload two: {}", hex(&case.two)),
+        format!("by itself: {}", hex(&Case { source: GIVEN, one: before, ..case }.to_bytes())),
+    ];
+    Failure::Other(lines.join("\n"))
 }

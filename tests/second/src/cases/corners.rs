@@ -26,6 +26,7 @@ impl Maker {
             self.blank_messages(kind.0, kind.1, 5);
             self.nearly_blank(kind);
         }
+        self.blank_too_early();
     }
 
     pub fn any_corner(&mut self) {
@@ -201,6 +202,17 @@ impl Maker {
                 self.left(JUDGE, 0, &[]);
             }
             self.again(STRETCH, 3, &[7]);
+        }
+    }
+
+    /// A header length below 5 words, and nothing but zeros from there on.
+    fn blank_too_early(&mut self) {
+        for words in [3, 4] {
+            let mut packet = Shape::plain((4, ICMP), 4).good(&mut self.random);
+            packet[0] = 0x40 | words as u8;
+            packet[4 * words..].fill(0);
+            refresh(&mut packet, 4);
+            self.every_operation(&packet, 4);
         }
     }
 }

@@ -4,7 +4,7 @@
 use super::sums::big_endian;
 use super::Maker;
 use crate::answer::*;
-use crate::draft::{faults_of, refresh, spoil, Fault, Shape, KINDS};
+use crate::draft::{declare, faults_of, refresh, spoil, Fault, Shape, KINDS};
 use crate::packet::{View, ICMP, ICMPV6, TCP, UDP};
 
 impl Maker {
@@ -26,6 +26,7 @@ impl Maker {
         for _ in 0..60 {
             self.any_sequence();
         }
+        self.protocols();
         self.header_lengths();
         self.data_offsets();
         for length in 0..=64 {
@@ -256,6 +257,27 @@ impl Maker {
         }
     }
 
+    /// Every protocol number, with a message shorter than any fixed header.
+    fn protocols(&mut self) {
+        for kind in [(4, ICMP), (6, ICMPV6)] {
+            let mut packet = self.any_good(kind);
+            let view = View::new(&packet);
+            let (place, end) = (view.protocol_place(), view.header_length() + 3);
+            declare(&mut packet, kind.0, 3);
+            packet.truncate(end);
+            for protocol in 0..=255 {
+                packet[place] = protocol;
+                refresh(&mut packet, kind.0);
+                self.given(JUDGE, 0, &packet, &[]);
+                self.again(MEND, 0, &[]);
+                self.again(LIFETIME, 0, &[]);
+                let address = self.address(if kind.0 == 4 { 4 } else { 16 });
+                self.again(ADDRESS, 0, &address);
+                self.again(STRETCH, 0, &[]);
+            }
+        }
+    }
+
     /// IPv4 header lengths of 0 to 15 words.
     fn header_lengths(&mut self) {
         for protocol in [ICMP, TCP, UDP] {
@@ -296,7 +318,7 @@ impl Maker {
             packet = self.any_good(kind);
             for _ in 0..self.random.between(1, 3) {
                 let place = self.random.between(0, packet.len() - 1);
-                packet[place] = self.random.next() as u8;
+                packet[place] = self.random.any() as u8;
             }
             packet.resize(length, 0);
         }
@@ -331,11 +353,13 @@ impl Maker {
             let packet = self.filled(Shape { tail: 65_600, ..Shape::plain(kind, 21) }, 0xFF);
             self.long(&packet, kind.0);
         }
-        let whole_body = self.random.bytes(20_001);
-        let packet = Shape::any((4, ICMP), 20_001, &mut self.random).good(&mut self.random);
-        self.given(JUDGE, 0, &packet, &[]);
-        self.again(STRETCH, 0, &whole_body);
-        self.left(JUDGE, 0, &[]);
+        for (kind, body) in [((4, ICMP), 20_001), ((6, UDP), 1_499), ((4, TCP), 4_096), ((6, TCP), 9_000)] {
+            let packet = Shape::any(kind, body, &mut self.random).good(&mut self.random);
+            let new = self.random.bytes(body);
+            self.given(JUDGE, 0, &packet, &[]);
+            self.again(STRETCH, 0, &new);
+            self.left(JUDGE, 0, &[]);
+        }
     }
 
     /// A packet whose body is one byte many times over, but for a few bytes.
@@ -344,7 +368,7 @@ impl Maker {
         packet[shape.headers()..].fill(fill);
         for _ in 0..20 {
             let place = self.random.between(shape.headers(), packet.len() - 1);
-            packet[place] = self.random.next() as u8;
+            packet[place] = self.random.any() as u8;
         }
         refresh(&mut packet, shape.family);
         packet

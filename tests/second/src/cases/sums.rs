@@ -53,13 +53,14 @@ impl Maker {
         for bytes in [&[][..], &[0, 0], &[0xFF, 0xFF], &[0xAB], &EIGHT, &EIGHT[..3], &EIGHT[3..], &low_first] {
             self.sum(bytes);
         }
+        self.given(CHAIN, 0, &EIGHT, &big_endian(&[0, 3, 3, 5]));
         self.again(JOIN, 0xF201 << 32 | 1 << 17 | 1 << 16 | 0xF0EB, &[]);
         self.again(UPDATE, 0xDD2F_5555_3285, &[]);
         self.again(UPDATE, 0xEDCB_1234_0000, &[]);
     }
 
     fn any_update(&mut self) {
-        let number = self.random.next() >> 16;
+        let number = self.random.any() >> 16;
         self.again(UPDATE, number, &[]);
         self.again(JOIN, number & 0xFFFF_0003_FFFF, &[]);
     }

@@ -1,0 +1,3 @@
+-- Laws of the judge.
+pub mod Answers
+pub mod Before

@@ -1,0 +1,57 @@
+-- Each return is a case of the message's verdict.
+use mathlib.Core.Path.{_≡_, _∙_, sym, ap, ap₂}
+use Prim.Native.Nat.{ℕ}
+use native.Mathlib.Omega.{arith}
+use mathlib.Core.List.{List}
+use mathlib.Core.Bool.{_&&_}
+use lib.Dec.{eqb}
+use denote.Ref.{now}
+use Rattle.wire.specs.Bytes.{wordAt}
+use Rattle.wire.specs.Outer.{familyOf}
+use Rattle.wire.specs.Inner.{silentOf, fieldAt}
+use Rattle.wire.specs.declared.Message.{Message}
+use Rattle.wire.proofs.Held.{held-facts, is-four, is-six}
+use Rattle.judge.proofs.Answers.{unsummed, missing, bad, good}
+use borrow.Author.Needs.{needs}
+use Rattle.judge.proofs.judge_message.Statement.{statement}
+use Rattle.judge.proofs.judge_message.Tie as tie
+
+abbrev P : tie.Start → List ℕ
+P c = now (c .args .packet)
+
+family : (c : tie.Start) → c .args .m .family ≡ familyOf (P c)
+family c = ap (λ (m : Message). m .family) (c .pre .is)
+
+field : (c : tie.Start) → c .args .m .field ≡ fieldAt (P c)
+field c = ap (λ (m : Message). m .field) (c .pre .is)
+
+quiet : (c : tie.After-silent) → c .silent .result ≡ silentOf (P (c .before .before))
+unfolding silentOf
+quiet c =
+    let b = c .before .before in
+    c .silent .ensures ∙ ap (λ (m : Message). eqb (m .protocol) 17 && eqb (wordAt (P b) (m .field)) 0) (b .pre .is)
+
+returns : tie.Need-returns
+returns c = let q = c .before .before .before in let b = q .before .before in unsummed (P b) (sym (quiet q) ∙ c .before .before .if1 .taken) (is-four (P b) (sym (family b) ∙ c .enum-told .given .1))
+
+returns-2 : tie.Need-returns-2
+returns-2 c = let q = c .before .before .before in let b = q .before .before in missing (P b) (sym (quiet q) ∙ c .before .before .if1 .taken) (held-facts (b .pre) .six (is-six (P b) (sym (family b) ∙ c .enum-told2 .given .1)) .1)
+
+returns-3 : tie.Need-returns-3
+returns-3 c = let l = c .before .before in good _ (sym (quiet (l .before)) ∙ l .if1 .left) (sym (c .before .message-sums .ensures) ∙ c .if2 .taken)
+
+returns-4 : tie.Need-returns-4
+returns-4 c = let l = c .before .before in bad _ (sym (quiet (l .before)) ∙ l .if1 .left) (sym (c .before .message-sums .ensures) ∙ c .if2 .left)
+
+pub judge-message-spec : {M : Type 1} → statement M
+judge-message-spec =
+    tie.close
+    (tie.spec
+    (λ c κs. let e = field (c .before) in let f = held-facts (c .before .pre) in omega arith)
+    (λ c. search needs)
+    (λ c. search needs)
+    returns
+    returns-2
+    (λ c κs. search needs)
+    returns-3
+    returns-4)

@@ -1,0 +1,294 @@
+"""Holds the library to tools that nobody here wrote: scapy, the Linux kernel and tshark.
+
+interop.py KERNEL.pcap OURS..: a capture of what the kernel sent, and the words that start ours.c's program.
+Prints a table of counts. At a disagreement it prints the packet in hex, and the exit status is 1.
+"""
+import random
+import struct
+import subprocess
+import sys
+import tempfile
+
+from scapy.layers.inet import ICMP, IP, TCP, UDP, IPOption_NOP, IPOption_Router_Alert
+from scapy.layers.inet6 import ICMPv6EchoReply, ICMPv6EchoRequest, ICMPv6ND_NA, ICMPv6ND_NS, ICMPv6Unknown, IPv6
+from scapy.packet import Raw
+
+SEED, MADE, ZEROS, DAMAGES, STRETCHES = 20, 1500, 60, 4, 2
+GOOD, UNSUMMED, HEADER_SUM, UNCOVERED, MESSAGE_SUM = 0, 1, 5, 7, 9
+FIXED = {1: (8, 2), 6: (20, 16), 17: (8, 6), 58: (4, 2)}  # protocol: fixed header, place of the field
+rng = random.Random(SEED)
+differ = 0
+table = []
+
+
+class Packet:
+    """Where things are in a packet that is whole."""
+
+    def __init__(self, data):
+        self.data = data
+        self.four = data[0] >> 4 == 4
+        self.start = 4 * (data[0] & 15) if self.four else 40
+        self.end = int.from_bytes(data[2:4], "big") if self.four else 40 + int.from_bytes(data[4:6], "big")
+        self.protocol = data[9] if self.four else data[6]
+        self.covered = self.protocol in ((1, 6, 17) if self.four else (6, 17, 58))
+        if self.covered:
+            fixed, field = FIXED[self.protocol]
+            self.field = self.start + field
+            self.body = self.start + (4 * (data[self.start + 12] >> 4) if self.protocol == 6 else fixed)
+            self.unsummed = self.protocol == 17 and data[self.field:self.field + 2] == b"\0\0"
+
+
+def disagree(what, data):
+    global differ
+    differ += 1
+    print(f"interop: {what}: {data.hex()}")
+
+
+def count(what, agreed, packets):
+    table.append((what, packets, agreed))
+
+
+# The three judges
+
+
+def ours(requests):
+    """Calls the library: requests of letter, number, new bytes and packet; answers of verdict and packet."""
+    sent = b"".join(
+        letter.encode() + struct.pack(">II", number, len(new)) + new + struct.pack(">I", len(data)) + data
+        for letter, number, new, data in requests
+    )
+    got = subprocess.run(sys.argv[2:], input=sent, stdout=subprocess.PIPE, check=True).stdout
+    answers, at = [], 0
+    while at < len(got):
+        verdict, length = struct.unpack_from(">BI", got, at)
+        answers.append((verdict, got[at + 5:at + 5 + length]))
+        at += 5 + length
+    assert len(answers) == len(requests)
+    return answers
+
+
+def judged(packets):
+    return [verdict for verdict, _ in ours([("j", 0, b"", data) for data in packets])]
+
+
+def tshark(packets):
+    """What tshark's checksum check finds, in our verdict numbers; None where it says neither good nor bad."""
+    fields = ["ip", "udp", "tcp", "icmp", "icmpv6"]
+    with tempfile.NamedTemporaryFile(suffix=".pcap") as file:
+        file.write(struct.pack("<IHHIIII", 0xA1B2C3D4, 2, 4, 0, 0, 65535, 101))  # raw IP
+        for i, data in enumerate(packets):
+            file.write(struct.pack("<IIII", i, 0, len(data), len(data)) + data)
+        file.flush()
+        words = ["tshark", "-n", "-r", file.name, "-T", "fields", "-E", "separator=,", "-E", "occurrence=f"]
+        words += [w for f in fields for w in ("-e", f + ".checksum.status")]
+        words += [w for f in ("ip", "udp", "tcp") for w in ("-o", f + ".check_checksum:TRUE")]
+        lines = subprocess.run(words, stdout=subprocess.PIPE, stderr=subprocess.DEVNULL, check=True, text=True).stdout.splitlines()
+    assert len(lines) == len(packets)
+    verdicts = []
+    for line in lines:
+        header, *messages = [{"Bad": "0", "Good": "1", "Not present": "3"}.get(s, s) for s in line.split(",")]
+        message = next((s for s in messages if s), None)
+        verdicts.append(HEADER_SUM if header == "0" else {"0": MESSAGE_SUM, "1": GOOD, "3": UNSUMMED}.get(message))
+    return verdicts
+
+
+def rebuilt(packet):
+    """The packet with its fields worked out by scapy; a UDP field of 0000 over IPv4 is kept."""
+    data = packet.data[:packet.end]
+    if packet.protocol == 58:
+        made = IPv6(data[:40]) / ICMPv6Unknown(data[40:])  # scapy leaves types that it doesn't know unread
+        del made.payload.cksum
+    else:
+        made = IP(data) if packet.four else IPv6(data)
+        if not (packet.four and packet.unsummed):
+            del made.payload.chksum
+    if packet.four:
+        del made.chksum
+    return bytes(made)
+
+
+# Where packets come from
+
+
+def scapy_made():
+    """A packet of random content, with sums by scapy."""
+    payload = rng.randbytes(rng.choice([*range(70), *range(70), 255, 256, 511, 777, 1300, 1400]))
+    ports = {"sport": rng.randrange(1024, 65536), "dport": rng.randrange(1024, 65536)}
+    tcp_options = rng.choice([[], [("MSS", 1460)], [("NOP", None), ("NOP", None), ("Timestamp", (rng.getrandbits(32), 7))]])
+    tcp = TCP(seq=rng.getrandbits(32), ack=rng.getrandbits(32), flags=rng.choice(["S", "A", "PA", "FA", "R"]), options=tcp_options, **ports)
+    if rng.random() < 0.5:
+        ip = IP(
+            src=".".join(map(str, rng.randbytes(4))), dst=".".join(map(str, rng.randbytes(4))), ttl=rng.randrange(2, 256),
+            id=rng.getrandbits(16), tos=rng.getrandbits(8), flags=rng.choice(["", "DF"]),
+            options=rng.choice([[], [], [IPOption_NOP()], [IPOption_Router_Alert()]]),
+        )
+        icmp = ICMP(type=rng.choice([0, 8]), id=rng.getrandbits(16), seq=rng.getrandbits(16))
+        message = rng.choice([tcp, UDP(**ports), icmp])
+        if rng.random() < 0.05:
+            message = UDP(chksum=0, **ports)
+    else:
+        ip = IPv6(
+            src=rng.randbytes(16).hex(":", 2), dst=rng.randbytes(16).hex(":", 2), hlim=rng.randrange(2, 256),
+            tc=rng.getrandbits(8), fl=rng.getrandbits(20),
+        )
+        echo = {"id": rng.getrandbits(16), "seq": rng.getrandbits(16), "data": payload}
+        message = rng.choice([
+            tcp, UDP(**ports), ICMPv6EchoRequest(**echo), ICMPv6EchoReply(**echo), ICMPv6Unknown(type=200, msgbody=payload),
+            ICMPv6ND_NS(tgt="fe80::1"), ICMPv6ND_NA(tgt="fe80::2"),
+        ])
+    if isinstance(message, (TCP, UDP, ICMP)):
+        message = message / Raw(payload)
+    tail = rng.randbytes(rng.randrange(1, 9)) if rng.random() < 0.2 else b""
+    return bytes(ip / message) + tail
+
+
+def zero_made(i):
+    """A packet whose sums come out 0000, so that UDP is sent with FFFF."""
+    ip = IP(src="10.0.0.1", dst="10.0.0.2", ttl=2 + i, id=0) if i % 2 else IPv6(src="fd00::1", dst="fd00::2", hlim=2 + i)
+    echo = ICMP(id=i) if i % 2 else ICMPv6EchoRequest(id=i)
+    message = [UDP(sport=40000 + i, dport=50000), TCP(sport=40000 + i, dport=50000), echo][i % 3]
+    packet = Packet(bytes(ip / message / Raw(b"\0\0")))
+    if packet.four:
+        ip.id = int.from_bytes(packet.data[10:12], "big")
+    made = bytes(ip / message / Raw(packet.data[packet.field:packet.field + 2]))
+    assert made[packet.field:packet.field + 2] == (b"\xff\xff" if packet.protocol == 17 else b"\0\0")
+    return made
+
+
+def kernel_made(path):
+    """The IP packets of a capture of Ethernet frames."""
+    with open(path, "rb") as file:
+        data = file.read()
+    assert data[:4] in (b"\xd4\xc3\xb2\xa1", b"\x4d\x3c\xb2\xa1") and data[20] == 1, "no capture of Ethernet"
+    at, packets = 24, []
+    while at < len(data):
+        length = struct.unpack_from("<I", data, at + 8)[0]
+        frame = data[at + 16:at + 16 + length]
+        if frame[12:14] in (b"\x08\x00", b"\x86\xdd"):
+            packets.append(frame[14:])
+        at += 16 + length
+    return packets
+
+
+# What is tried
+
+
+def check_good(who, packets):
+    """Packets that others made: good or unsummed for us and for tshark."""
+    agreed = 0
+    for data, we, they in zip(packets, judged(packets), tshark(packets)):
+        want = UNSUMMED if Packet(data).unsummed else GOOD
+        if we == they == want:
+            agreed += 1
+        else:
+            disagree(f"made by {who}: {want} wanted, we say {we}, tshark {they}", data)
+    count(f"made by {who}; good (or unsummed) for us and for tshark", agreed, len(packets))
+
+
+def damaged(packet):
+    """A packet with one bit or one byte changed where a sum must see it."""
+    header = [1, 4, 5, 8, *range(10, 20)] if packet.four else range(8, 40)
+    message = [i for i in range(packet.start, packet.end)
+               if not (packet.protocol == 17 and i - packet.start in (4, 5)) and not (packet.protocol == 6 and i - packet.start == 12)]
+    at = rng.choice(header if packet.unsummed or rng.random() < 0.3 else message)
+    data = bytearray(packet.data)
+    data[at] ^= 1 << rng.randrange(8) if rng.random() < 0.5 else rng.randrange(1, 256)
+    return damaged(packet) if not packet.unsummed and Packet(bytes(data)).unsummed else bytes(data)
+
+
+def check_damaged(packets):
+    agreed, broken = 0, [damaged(Packet(data)) for data in packets for _ in range(DAMAGES)]
+    for data, we, they in zip(broken, judged(broken), tshark(broken)):
+        if we == they and we in (HEADER_SUM, MESSAGE_SUM):
+            agreed += 1
+        else:
+            disagree(f"damaged: we say {we}, tshark {they}", data)
+    count("damaged by us, one bit or one byte; refused by us and by tshark, for the same sum", agreed, len(broken))
+
+
+def check_changed(what, requests):
+    """Packets that we edit or mend: as good for tshark as they were before, and for us."""
+    answers, agreed = ours(requests), 0
+    results = [data for _, data in answers]
+    for (_, _, _, before), (verdict, data), we, they in zip(requests, answers, judged(results), tshark(results)):
+        if verdict == GOOD and we == they == (UNSUMMED if Packet(before).unsummed else GOOD):
+            agreed += 1
+        else:
+            disagree(f"{what}: answered {verdict}, we say {we}, tshark {they}", data)
+    count(f"{what} by us; good for tshark", agreed, len(requests))
+    return results
+
+
+def address(data):
+    return "a", rng.randrange(2), rng.randbytes(4 if Packet(data).four else 16), data
+
+
+def stretch(data):
+    packet = Packet(data)
+    length = rng.randrange(1, packet.end - packet.body + 1)
+    return "s", rng.randrange(packet.end - packet.body - length + 1), rng.randbytes(length), data
+
+
+def same(data):
+    """Writes the body's own bytes again, which tells a UDP field of FFFF from 0000."""
+    packet = Packet(data)
+    return "s", 0, data[packet.body:packet.end], data
+
+
+def check_edits(packets):
+    lowered = check_changed("lifetime lowered", [("l", 0, b"", data) for data in packets])
+    moved = check_changed("address set", [address(data) for data in packets])
+    roomy = [data for data in packets if Packet(data).end > Packet(data).body]
+    check_changed("stretch set", [stretch(data) for data in roomy for _ in range(STRETCHES)])
+    check_changed("the same body set", [same(data) for data in roomy])
+    check_changed("two edits in turn", [address(data) for data in lowered] + [("l", 0, b"", data) for data in moved])
+
+
+def scribbled(data):
+    """A packet with other fields, which a mender is to put right."""
+    packet, data = Packet(data), bytearray(data)
+    if packet.four:
+        data[10:12] = rng.randbytes(2)
+    if not packet.unsummed:
+        data[packet.field:packet.field + 2] = rng.choice([rng.randbytes(2), b"\1\0", b"\xff\xff"])
+    return b"" if not packet.unsummed and Packet(bytes(data)).unsummed else bytes(data)
+
+
+def check_mended(packets):
+    broken = [data for data in map(scribbled, packets) if data]
+    agreed, mended = 0, check_changed("mended", [("m", 0, b"", data) for data in broken])
+    for data in mended:
+        packet = Packet(data)
+        if rebuilt(packet) == data[:packet.end]:
+            agreed += 1
+        else:
+            disagree(f"mended: scapy makes {rebuilt(packet).hex()} of it", data)
+    count("mended by us; the bytes that scapy makes", agreed, len(mended))
+
+
+def main():
+    made = [scapy_made() for _ in range(MADE)] + [zero_made(i) for i in range(ZEROS)]
+    sent = kernel_made(sys.argv[1])
+    kernel = [data for data in sent if Packet(data).covered]
+    others = [data for data in sent if not Packet(data).covered]
+    kinds = {(Packet(data).four, Packet(data).protocol) for data in kernel}
+    if not kinds >= {(True, 1), (True, 6), (True, 17), (False, 6), (False, 17), (False, 58)}:
+        disagree(f"the kernel's capture has only the kinds {sorted(kinds)}", b"")
+    check_good("scapy", made)
+    check_good("the kernel", kernel)
+    for data, we in zip(others, judged(others)):
+        if we != UNCOVERED:
+            disagree(f"another protocol of the kernel's: we say {we}", data)
+    both = made + kernel
+    check_damaged(both)
+    check_edits(both)
+    check_mended(both)
+    print("| what | packets | agreed |\n|---|---|---|")
+    for what, packets, agreed in table:
+        print(f"| {what} | {packets} | {agreed} |")
+    print(f"interop: {differ} disagreements")
+    return 1 if differ else 0
+
+
+if __name__ == "__main__":
+    sys.exit(main())

@@ -1,0 +1,194 @@
+// The paper's facts tried on random bytes and packets: joining, mending, kept verdicts, and the corners.
+
+use second::draft::{balance_message, faults_of, refresh, spoil, write_word, Fault, Shape, KINDS};
+use second::edit::{lower_lifetime, set_address, set_stretch};
+use second::judge::judge;
+use second::mend::mend;
+use second::packet::{View, ICMP, TCP, UDP};
+use second::random::Random;
+use second::sums::*;
+
+/// A random packet, good or with up to two faults.
+fn any_packet(random: &mut Random) -> ((u8, u8), Vec<u8>) {
+    let kind = random.pick(&KINDS);
+    let body = random.between(0, 40);
+    let mut packet = Shape::any(kind, body, random).good(random);
+    let faults: Vec<Fault> = (0..random.between(0, 2)).map(|_| random.pick(&faults_of(kind))).collect();
+    spoil(&mut packet, kind.0, &faults, random);
+    (kind, packet)
+}
+
+/// A random edit; answers its verdict.
+fn any_edit(packet: &mut [u8], family: u8, random: &mut Random) -> u8 {
+    match random.between(0, 2) {
+        0 => lower_lifetime(packet),
+        1 => {
+            let length = if family == 4 { 4 } else { 16 };
+            set_address(packet, random.between(0, 2) as u32, &random.contents(length))
+        }
+        _ => {
+            let (place, length) = (random.between(0, 20), random.between(0, 20));
+            set_stretch(packet, place as u64, &random.contents(length))
+        }
+    }
+}
+
+#[test]
+fn joined_partial_sums_are_those_of_the_joined_string() {
+    let mut random = Random(1);
+    for length in 0..200 {
+        let bytes = random.contents(length);
+        let (a, b) = bytes.split_at(random.between(0, length));
+        assert_eq!(join(partial(a), partial(b)), partial(&bytes));
+        let list = [0, a.len() as u32, a.len() as u32, b.len() as u32];
+        assert_eq!(chain(&bytes, &list), Ok(partial(&bytes)));
+    }
+}
+
+#[test]
+fn chains_are_refused_whole() {
+    let bytes = [1, 2, 3];
+    assert_eq!(chain(&bytes, &[]), Ok(Partial { fold: Fold(0), odd: false }));
+    assert!(chain(&bytes, &[3, 0]).is_ok());
+    for list in [&[0][..], &[4, 0], &[0, 4], &[u32::MAX, 1], &[u32::MAX, 2], &[1, u32::MAX], &[0, 3, 4, 0]] {
+        assert_eq!(chain(&bytes, list), Err(10));
+    }
+}
+
+#[test]
+fn good_shapes_are_good() {
+    let mut random = Random(2);
+    for _ in 0..5000 {
+        let (kind, body) = (random.pick(&KINDS), random.between(0, 40));
+        let packet = Shape::any(kind, body, &mut random).good(&mut random);
+        assert_eq!(judge(&packet), 0);
+    }
+}
+
+#[test]
+fn mending_twice_is_mending_once_and_the_judge_agrees() {
+    let mut random = Random(3);
+    for _ in 0..20_000 {
+        let (_, mut packet) = any_packet(&mut random);
+        let before = packet.clone();
+        if mend(&mut packet) == 0 {
+            assert!(judge(&packet) <= 1);
+            let once = packet.clone();
+            assert_eq!(mend(&mut packet), 0);
+            assert_eq!(packet, once);
+        } else {
+            assert_eq!(packet, before);
+        }
+    }
+}
+
+#[test]
+fn an_edit_keeps_the_verdict_and_a_refused_one_keeps_the_packet() {
+    let mut random = Random(4);
+    for _ in 0..20_000 {
+        let (kind, mut packet) = any_packet(&mut random);
+        let verdict = judge(&packet);
+        for _ in 0..10 {
+            let before = packet.clone();
+            if any_edit(&mut packet, kind.0, &mut random) != 0 {
+                assert_eq!(packet, before);
+            }
+            assert_eq!(judge(&packet), verdict);
+        }
+    }
+}
+
+/// A field at FFFF where 0000 is fresh passes; the same bytes again bring it to 0000; all ones gone, it stays FFFF.
+#[test]
+fn the_corners_of_the_update() {
+    let mut random = Random(5);
+    for kind in KINDS {
+        let shape = Shape::plain(kind, 8);
+        let body = shape.headers();
+        let mut packet = shape.good(&mut random);
+        packet[body + 2..body + 6].copy_from_slice(&[0x80, 0x00, 0x7F, 0xFF]);
+        balance_message(&mut packet, kind.0, body);
+        let field = View::new(&packet).field_place();
+        let zero = if kind.1 == UDP { [0xFF, 0xFF] } else { [0, 0] };
+        assert_eq!(packet[field..field + 2], zero);
+        write_word(&mut packet, field, 0xFFFF);
+        assert_eq!(judge(&packet), 0);
+        let mut same = packet.clone();
+        assert_eq!(set_stretch(&mut same, 2, &[0x80, 0x00, 0x7F, 0xFF]), 0);
+        assert_eq!(same[field..field + 2], zero);
+        assert_eq!(set_stretch(&mut packet, 2, &[0, 0, 0, 0]), 0);
+        assert_eq!(packet[field..field + 2], [0xFF, 0xFF]);
+        assert_eq!(judge(&packet), 0);
+        assert_eq!(mend(&mut packet), 0);
+        assert_eq!(packet[field..field + 2], zero);
+    }
+}
+
+#[test]
+fn udp_zero_is_kept_in_ipv4_and_missing_in_ipv6() {
+    let mut random = Random(6);
+    for family in [4, 6] {
+        let mut packet = Shape::plain((family, UDP), 5).good(&mut random);
+        let field = View::new(&packet).field_place();
+        write_word(&mut packet, field, 0);
+        let (verdict, edited) = if family == 4 { (1, 0) } else { (8, 8) };
+        assert_eq!(judge(&packet), verdict);
+        assert_eq!(set_stretch(&mut packet, 1, &[1, 2, 3]), edited);
+        assert_eq!(lower_lifetime(&mut packet), edited);
+        assert_eq!(judge(&packet), verdict);
+        assert_eq!(mend(&mut packet), 0);
+        assert_eq!(judge(&packet), if family == 4 { 1 } else { 0 });
+    }
+}
+
+#[test]
+fn blank_icmp() {
+    let mut random = Random(7);
+    let mut packet = Shape { tail: 3, ..Shape::plain((4, ICMP), 4) }.good(&mut random);
+    packet[20..32].fill(0);
+    assert_eq!(judge(&packet), 9);
+    assert_eq!(mend(&mut packet), 0);
+    assert_eq!((judge(&packet), &packet[22..24]), (0, &[0xFF, 0xFF][..]));
+    assert_eq!(set_stretch(&mut packet, 0, &[1]), 12);
+    assert_eq!(set_stretch(&mut packet, 3, &[1, 2]), 10);
+    assert_eq!(set_stretch(&mut packet, 4, &[]), 0);
+    assert_eq!(set_stretch(&mut packet, 5, &[]), 10);
+    packet[30] = 7;
+    refresh(&mut packet, 4);
+    assert_eq!(set_stretch(&mut packet, 2, &[0]), 12);
+    assert_eq!(set_stretch(&mut packet, 1, &[0, 0, 1]), 0);
+    assert_eq!(judge(&packet), 0);
+}
+
+#[test]
+fn a_header_longer_than_the_total_length_is_shape_before_cut() {
+    let mut packet = vec![0; 30];
+    (packet[0], packet[3]) = (0x4F, 40);
+    assert_eq!(judge(&packet), 4);
+    assert_eq!(mend(&mut packet), 4);
+}
+
+#[test]
+fn tails_are_neither_judged_nor_changed() {
+    let mut random = Random(8);
+    for kind in KINDS {
+        let shape = Shape { tail: 9, ..Shape::plain(kind, 7) };
+        let mut packet = shape.good(&mut random);
+        let end = packet.len() - 9;
+        let tail = random.bytes(9);
+        packet[end..].copy_from_slice(&tail);
+        assert_eq!(judge(&packet), 0);
+        assert_eq!(set_stretch(&mut packet, 6, &[9]), 0);
+        assert_eq!(set_stretch(&mut packet, 6, &[9, 9]), 10);
+        assert_eq!((judge(&packet), &packet[end..]), (0, &tail[..]));
+    }
+}
+
+#[test]
+fn the_data_offset_may_equal_the_message_length() {
+    let mut random = Random(9);
+    let mut packet = Shape { offset: 15, ..Shape::plain((6, TCP), 0) }.good(&mut random);
+    assert_eq!(judge(&packet), 0);
+    assert_eq!(set_stretch(&mut packet, 0, &[]), 0);
+    assert_eq!(set_stretch(&mut packet, 0, &[1]), 10);
+}

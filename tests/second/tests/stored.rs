@@ -1,0 +1,58 @@
+// The stored cases and answers are those of seed 1; the case format is read as CASES.md says.
+
+use second::answer::{Case, Desk, Next};
+use second::cases;
+use std::fs;
+
+/// The answers to a file of cases, and whether it ends well.
+fn answers(mut input: &[u8]) -> (String, bool) {
+    let (mut desk, mut lines) = (Desk::default(), String::new());
+    loop {
+        match Case::read(&mut input).unwrap() {
+            Next::Case(case) => {
+                desk.lay(&case);
+                lines += &desk.answer(&case);
+            }
+            Next::Bad => return (lines, false),
+            Next::End => return (lines, true),
+        }
+    }
+}
+
+#[test]
+fn the_stored_cases_and_answers_are_those_of_seed_1() {
+    let folder = concat!(env!("CARGO_MANIFEST_DIR"), "/../../crates/vectors");
+    let (bytes, count) = cases::stored(1).unwrap();
+    assert!(count >= 20_000);
+    assert!(fs::read(format!("{folder}/stdin")).unwrap() == bytes, "stdin isn't what seed 1 gives");
+    let stored = fs::read_to_string(format!("{folder}/stdout")).unwrap();
+    assert!((stored, true) == answers(&bytes), "stdout isn't what stdin gives");
+}
+
+#[test]
+fn fuzz_cases_are_well_formed_and_the_same_from_the_same_seed() {
+    let (mut one, mut two) = (Vec::new(), Vec::new());
+    cases::fuzz(9, 3000, &mut one).unwrap();
+    cases::fuzz(9, 3000, &mut two).unwrap();
+    assert!(one == two);
+    let (lines, well) = answers(&one);
+    assert!(well && lines.lines().count() >= 3000);
+}
+
+#[test]
+fn sources_and_malformed_cases() {
+    let case = |operation: u8, source: u8, one: &[u8]| {
+        Case { operation, source, number: 0, one: one.to_vec(), two: vec![] }.to_bytes()
+    };
+    let good = [case(9, 0, &[0xAB]), case(9, 1, &[]), case(9, 2, &[])].concat();
+    assert_eq!(answers(&good), ("21759\n".repeat(3), true));
+    assert_eq!(answers(&good[..good.len() - 1]), ("21759\n".repeat(2), false));
+    assert_eq!(answers(&case(13, 0, &[])), (String::new(), false));
+    assert_eq!(answers(&case(0, 3, &[])), (String::new(), false));
+    let mut cut = case(0, 0, &[1, 2]);
+    cut.pop();
+    assert_eq!(answers(&cut), (String::new(), false));
+    let mut large = case(0, 0, &[]);
+    large[10..14].copy_from_slice(&131_073_u32.to_be_bytes());
+    assert_eq!(answers(&large), (String::new(), false));
+}
