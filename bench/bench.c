@@ -17,14 +17,13 @@
 enum operation { FIELD, JUDGE, MEND, LOWER, ADDRESS, STRETCH, OPERATIONS };
 enum { WAYS = 5, LONGEST = 60000, BATCH = 64, ROUNDS = 3000 };
 
-static const char *const names[OPERATIONS] = {"field", "judge", "mend", "lower lifetime", "set address", "set stretch"};
-static const struct way ours = {"ours",
-                                hifrostum_field,
-                                hifrostum_judge,
-                                hifrostum_mend,
-                                hifrostum_lower_lifetime,
-                                hifrostum_set_address,
-                                hifrostum_set_stretch};
+static const char *const names[OPERATIONS] = {
+    "field", "judge", "mend", "lower lifetime", "set address", "set stretch",
+};
+static const struct way ours = {
+    "ours", hifrostum_field, hifrostum_judge, hifrostum_mend, hifrostum_lower_lifetime,
+    hifrostum_set_address, hifrostum_set_stretch,
+};
 static const struct way *const ways[WAYS] = {&ours, &rfc1071, &wide, &dpdk, &by_hand};
 static const size_t lengths[] = {40, 64, 128, 576, 1500}, lifetimes[] = {64, 128, 576, 1500, 9000, 60000};
 static const uint8_t new[16] = {0xFD, 0x12, 0x34, 0x56, 0x78, 0x9A, 0xBC, 0xDE, 0xF0, 1, 2, 3, 4, 5, 6, 7};
@@ -97,7 +96,8 @@ static void compare(const struct way *way, enum operation op, const uint8_t *pac
 }
 
 /* Calls a way once, to be counted. */
-__attribute__((noinline)) static void counted(const struct way *way, enum operation op, const uint8_t *packet, size_t len)
+__attribute__((noinline)) static void counted(const struct way *way, enum operation op,
+                                              const uint8_t *packet, size_t len)
 {
     static uint8_t copy[LONGEST];
     memcpy(copy, packet, len);
@@ -145,17 +145,42 @@ static void timed(enum operation op, int family, uint8_t *packet, size_t len)
     printf("\n");
 }
 
-int main(int argc, char **argv)
+/* Measures one operation on one packet, done in each way: by counted calls, or by the clock. */
+static void measure(int calls, enum operation op, int family, size_t len)
 {
     static uint8_t packet[LONGEST];
+    build(packet, family, len);
+    for (int w = 0; w < WAYS; w++) {
+        if (!has(ways[w], op))
+            continue;
+        compare(ways[w], op, packet, len);
+        if (calls) {
+            counted(ways[w], op, packet, len);
+            print_row("", op, family, len);
+            printf(" | %d\n", w);
+        }
+    }
+    if (!calls)
+        timed(op, family, packet, len);
+}
+
+/* Counts the lifetime edit on packets of many lengths. */
+static void measure_lengths(void)
+{
+    static uint8_t packet[LONGEST];
+    for (size_t i = 0; i < sizeof lifetimes / sizeof *lifetimes; i++) {
+        build(packet, 4, lifetimes[i]);
+        counted(&ours, LOWER, packet, lifetimes[i]);
+        printf("%zu\n", lifetimes[i]);
+    }
+}
+
+int main(int argc, char **argv)
+{
     const char *what = argc == 2 ? argv[1] : "";
     int calls = strcmp(what, "calls") == 0;
     if (strcmp(what, "lengths") == 0) {
-        for (size_t i = 0; i < sizeof lifetimes / sizeof *lifetimes; i++) {
-            build(packet, 4, lifetimes[i]);
-            counted(&ours, LOWER, packet, lifetimes[i]);
-            printf("%zu\n", lifetimes[i]);
-        }
+        measure_lengths();
         return 0;
     }
     if (!calls && strcmp(what, "times") != 0) {
@@ -164,24 +189,9 @@ int main(int argc, char **argv)
     }
     for (enum operation op = 0; op < OPERATIONS; op++)
         for (int family = 4; family <= 6; family += 2)
-            for (size_t i = 0; i < sizeof lengths / sizeof *lengths; i++) {
+            for (size_t i = 0; i < sizeof lengths / sizeof *lengths; i++)
                 /* a sum has no family, and 40 bytes hold no UDP over IPv6 */
-                if (family == 6 && (op == FIELD || lengths[i] == 40))
-                    continue;
-                build(packet, family, lengths[i]);
-                for (int w = 0; w < WAYS; w++)
-                    if (has(ways[w], op)) {
-                        compare(ways[w], op, packet, lengths[i]);
-                        if (calls) {
-                            counted(ways[w], op, packet, lengths[i]);
-                            print_row("", op, family, lengths[i]);
-                            printf(" | %d\n", w);
-                        }
-                    }
-                if (!calls) {
-                    timed(op, family, packet, lengths[i]);
-                    fflush(stdout);
-                }
-            }
+                if (family == 4 || (op != FIELD && lengths[i] != 40))
+                    measure(calls, op, family, lengths[i]);
     return 0;
 }

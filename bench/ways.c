@@ -101,7 +101,9 @@ static inline int find(const uint8_t *p, size_t len, struct place *at)
 {
     if (len >= 20 && p[0] >> 4 == 4) {
         *at = (struct place){4u * (p[0] & 15), swap(word(p + 2)), 12, 4, 1};
-        if (at->start < 20 || at->end < at->start || at->end > len || (swap(word(p + 6)) & 0x3FFF) || p[9] != 17)
+        if (at->start < 20 || at->end < at->start || at->end > len)
+            return 0;
+        if ((swap(word(p + 6)) & 0x3FFF) || p[9] != 17)
             return 0;
     } else if (len >= 40 && p[0] >> 4 == 6) {
         *at = (struct place){40, 40u + swap(word(p + 4)), 8, 16, 0};
@@ -119,7 +121,8 @@ typedef uint16_t summing(const uint8_t *, size_t);
 EACH uint16_t message(summing sum, const uint8_t *p, const struct place *at)
 {
     size_t len = at->end - at->start;
-    return fold((uint64_t)sum(p + at->start, len) + sum(p + at->source, 2 * at->address_len) + swap((uint16_t)len) + swap(17));
+    uint64_t pseudo = (uint64_t)sum(p + at->source, 2 * at->address_len) + swap((uint16_t)len) + swap(17);
+    return fold(pseudo + sum(p + at->start, len));
 }
 
 EACH void fresh_header(summing sum, uint8_t *p, const struct place *at)

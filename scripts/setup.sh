@@ -25,13 +25,15 @@ if [ "$(id -u)" = 0 ] && command -v apt-get >/dev/null; then
     log=$(mktemp)
     wait='-o DPkg::Lock::Timeout=300'
     # shellcheck disable=SC2086
-    { apt-get $wait update && DEBIAN_FRONTEND=noninteractive apt-get $wait install -y --no-install-recommends $need; } \
-        >"$log" 2>&1 || tail -n 3 "$log" >&2
+    {
+        apt-get $wait update &&
+            DEBIAN_FRONTEND=noninteractive apt-get $wait install -y --no-install-recommends $need
+    } >"$log" 2>&1 || tail -n 3 "$log" >&2
     rm -f "$log"
 fi
 if ready; then
     echo "setup: the C part has all it needs now"
 else
-    echo "setup: the C part can't be built here: install $need (root and apt-get would do it), or set HIFROSTUM_SKIP_C=1 to leave it out" >&2
+    echo "setup: the C part can't be built here: install $need, or set HIFROSTUM_SKIP_C=1 to leave it out" >&2
     exit 1
 fi

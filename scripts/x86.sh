@@ -24,7 +24,8 @@ fi
 compiles() { # LANGUAGE COMPILER..
     language=$1 made=$(mktemp)
     shift
-    printf '#include <stdio.h>\nint main(void) { return 0; }\n' | "$@" -x "$language" - -o "$made" 2>/dev/null && status=0 || status=1
+    printf '#include <stdio.h>\nint main(void) { return 0; }\n' |
+        "$@" -x "$language" - -o "$made" 2>/dev/null && status=0 || status=1
     rm -f "$made"
     return "$status"
 }
@@ -32,8 +33,9 @@ compiles() { # LANGUAGE COMPILER..
 archive() {
     cd "$(dirname "$0")/.."
     dir=${HIFROSTUM_LIB_DIR:-$PWD/target/staticlib}
+    made=$dir/libhifrostum.a
     if [ -z "${HIFROSTUM_LIB_DIR:-}" ]; then
-        if [ ! -f "$dir/libhifrostum.a" ] || [ -n "$(find crates crates.txt -newer "$dir/libhifrostum.a" | head -n 1)" ]; then
+        if [ ! -f "$made" ] || [ -n "$(find crates crates.txt -newer "$made" | head -n 1)" ]; then
             rt staticlib hifrostum >&2
         fi
     fi

@@ -279,11 +279,18 @@ static size_t packet_of(uint8_t *packet, int family, unsigned protocol, size_t m
 
 /* The rules paper's packets */
 
-static const uint8_t udp[30] = {0x45, 0, 0, 0x1E, 0, 0, 0x40, 0, 0x40, 0x11, 0xB8, 0xB6, 0xC0, 0xA8, 0, 1, 0xC0, 0xA8, 0, 0xC7,
-                                0x13, 0x88, 0x13, 0x89, 0, 0x0A, 0x0E, 0x47, 0x48, 0x69};
-static const uint8_t icmp6[48] = {0x60, 0, 0, 0, 0, 8, 58, 64, [23] = 1, [39] = 1, [40] = 0x80, 0, 0x7F, 0xB9, 0, 1, 0, 1};
-static const uint8_t glr[37] = {0x47, 0x4C, 0x52, 0, 1, 0, 0, 0, 0x1C, 0x45, 0, 0, 0x1C, 0, 0, 0, 0, 0x40, 1, 0x66, 0xDF, 0x0A, 0, 0, 1,
-                                0x0A, 0, 0, 2, 8, 0, 0xF7, 0xFD, 0, 1, 0, 1};
+static const uint8_t udp[30] = {
+    0x45, 0, 0, 0x1E, 0, 0, 0x40, 0, 0x40, 0x11, 0xB8, 0xB6, 0xC0, 0xA8, 0, 1, 0xC0, 0xA8, 0, 0xC7,
+    0x13, 0x88, 0x13, 0x89, 0, 0x0A, 0x0E, 0x47, 0x48, 0x69,
+};
+static const uint8_t icmp6[48] = {
+    0x60, 0, 0, 0, 0, 8, 58, 64, [23] = 1, [39] = 1, 0x80, 0, 0x7F, 0xB9, 0, 1, 0, 1,
+};
+static const uint8_t glr[37] = {
+    0x47, 0x4C, 0x52, 0, 1, 0, 0, 0, 0x1C,
+    0x45, 0, 0, 0x1C, 0, 0, 0, 0, 0x40, 1, 0x66, 0xDF, 0x0A, 0, 0, 1, 0x0A, 0, 0, 2,
+    8, 0, 0xF7, 0xFD, 0, 1, 0, 1,
+};
 
 static uint8_t p[SPACE], q[SPACE];
 
@@ -293,9 +300,10 @@ static void take_udp(void)
     memcpy(p, udp, sizeof udp);
 }
 
-static void sums(void)
+static const uint8_t words[8] = {0, 1, 0xF2, 3, 0xF4, 0xF5, 0xF6, 0xF7};
+
+static void fields(void)
 {
-    static const uint8_t words[8] = {0, 1, 0xF2, 3, 0xF4, 0xF5, 0xF6, 0xF7};
     static const uint8_t ones[2] = {0xFF, 0xFF}, zeros[2] = {0, 0}, odd[1] = {0xAB};
     expect(field(NULL, 0), 0xFFFF, "field of no bytes");
     expect(field(zeros, 2), 0xFFFF, "field of 00 00");
@@ -309,7 +317,10 @@ static void sums(void)
     for (size_t len = 0; len < 70; len++)
         expect(field(p + len, len), 65535 - fold(weigh(p + len, len)), "field of each length");
     expect(field(p, SPACE / 2 - 1), 65535 - fold(weigh(p, SPACE / 2 - 1)), "field of an odd megabyte");
+}
 
+static void updates(void)
+{
     expect(hifrostum_update(0xDD2F, 0x5555, 0x3285), 0, "update DD2F");
     expect(hifrostum_update(0xEDCB, 0x1234, 0), 0, "update EDCB");
     expect(hifrostum_update(0xB861, 0x4000, 0x3F00), 0xB961, "update of a lifetime");
@@ -319,7 +330,10 @@ static void sums(void)
         uint16_t hc = corners[i / 64], m = corners[i / 8 % 8], n = corners[i % 8];
         expect(hifrostum_update(hc, m, n), 65535 - fold(65535ul - hc + 65535ul - m + n), "update at a corner");
     }
+}
 
+static void chains(void)
+{
     static const uint32_t joined[] = {0, 3, 3, 5}, gaps[] = {8, 0, 7, 1, 0, 0, 2, 3, 2, 3};
     static const uint8_t gathered[7] = {0xF7, 0xF2, 3, 0xF4, 0xF2, 3, 0xF4};
     static const uint32_t wrapped[] = {0xFFFFFFFF, 1}, past[] = {0, 3, 9, 0}, late[] = {0, 8, 0, 8, 1, 8};
@@ -341,7 +355,7 @@ static void sums(void)
     for (size_t i = 0; i < 20000; i += 2) {
         many[i] = (uint32_t)i;
         many[i + 1] = 1;
-        q[i / 2] = p[i];
+        p[i] = q[i / 2] = (uint8_t)(i * i >> 3);
     }
     expect(chain(p, SPACE / 2, many, 20000, 0, 0), fold(weigh(q, 10000)), "chain of ten thousand bytes");
 }
@@ -359,7 +373,10 @@ static void judging(void)
         expect(judge(q, len), 2, "a cut IPv6 packet");
     memcpy(q, glr + 9, 28);
     expect(judge(q, 28), 0, "the paper's ICMP packet");
+}
 
+static void refusals(void)
+{
     /* one byte at a time: where, its value, and the verdict */
     static const struct {
         size_t at;
@@ -423,7 +440,10 @@ static void mending(void)
     put(p + 42, 0);
     expect(mend(p, 48), 0, "mend the paper's ICMPv6 packet");
     expect(word(p + 42), 0x7FB9, "the paper's ICMPv6 field");
+}
 
+static void mending_each(void)
+{
     static const struct {
         int family;
         unsigned protocol;
@@ -431,7 +451,7 @@ static void mending(void)
     } kinds[] = {{4, 1, 8}, {4, 1, 9}, {4, 6, 20}, {4, 6, 21}, {4, 17, 8}, {4, 17, 1473},
                  {6, 6, 20}, {6, 6, 1441}, {6, 17, 8}, {6, 17, 9}, {6, 58, 4}, {6, 58, 1001}};
     for (size_t i = 0; i < sizeof kinds / sizeof *kinds; i++) {
-        len = packet_of(p, kinds[i].family, kinds[i].protocol, kinds[i].message);
+        size_t len = packet_of(p, kinds[i].family, kinds[i].protocol, kinds[i].message);
         p[len] = 0xEE;
         expect(mend(p, len + 1), 0, "mend");
         expect(message_sum(p), 0xFFFF, "the message sums right");
@@ -441,8 +461,11 @@ static void mending(void)
         expect(mend(p, len), 0, "mend again");
         check(memcmp(p, q, len) == 0, "twice is once");
     }
+}
 
-    len = packet_of(p, 6, 17, 8);
+static void mending_corners(void)
+{
+    size_t len = packet_of(p, 6, 17, 8);
     put(p + 46, 0);
     expect(mend(p, len), 0, "mend UDP over IPv6 with no sum");
     expect(judge(p, len), 0, "which fills it in");
@@ -496,8 +519,10 @@ static void lifetime(void)
 static void address(void)
 {
     static const uint8_t new4[4] = {10, 0, 0, 9}, new6[17] = {0x20, 1, 0x0D, 0xB8, [15] = 9};
-    static const uint8_t want[30] = {0x45, 0, 0, 0x1E, 0, 0, 0x40, 0, 0x40, 0x11, 0x70, 0x1D, 0xC0, 0xA8, 0, 1, 10, 0, 0, 9,
-                                     0x13, 0x88, 0x13, 0x89, 0, 0x0A, 0xC5, 0xAD, 0x48, 0x69};
+    static const uint8_t want[30] = {
+        0x45, 0, 0, 0x1E, 0, 0, 0x40, 0, 0x40, 0x11, 0x70, 0x1D, 0xC0, 0xA8, 0, 1, 10, 0, 0, 9,
+        0x13, 0x88, 0x13, 0x89, 0, 0x0A, 0xC5, 0xAD, 0x48, 0x69,
+    };
     expect(call(ADDRESS, NULL, 0, 0, new4, 4), 2, "no bytes");
     take_udp();
     expect(call(ADDRESS, p, 30, 1, new4, 4), 0, "a new destination");
@@ -532,7 +557,7 @@ static void address(void)
 
 static void stretch(void)
 {
-    static const uint8_t new[4] = {0xDE, 0xAD, 0xBE, 0xEF}, zeros[8] = {0}, zero_sum[2] = {0x56, 0xB0};
+    static const uint8_t new[4] = {0xDE, 0xAD, 0xBE, 0xEF}, zero_sum[2] = {0x56, 0xB0};
     expect(call(STRETCH, NULL, 0, 0, NULL, 0), 2, "no bytes");
     take_udp();
     put(p + 28, 0x56B0);
@@ -552,7 +577,11 @@ static void stretch(void)
     expect(call(STRETCH, p, 30, SIZE_MAX, new, 1), 10, "place SIZE_MAX");
     expect(call(STRETCH, p, 30, SIZE_MAX, NULL, 0), 10, "nothing at place SIZE_MAX");
     expect(call(STRETCH, p, 30, SIZE_MAX - 1, new, 4), 10, "a place that wraps");
+}
 
+static void stretch_each(void)
+{
+    static const uint8_t new[4] = {0xDE, 0xAD, 0xBE, 0xEF}, zeros[8] = {0};
     size_t len = packet_of(p, 6, 6, 41);
     p[52] = 0x70;
     mend(p, len);
@@ -578,7 +607,7 @@ static void stretch(void)
 
 static void captures(void)
 {
-    static uint8_t verdicts[1200];
+    static uint8_t verdicts[9];
     capture(glr, 37, verdicts, 2, 0, 2);
     expect(word(verdicts), 0x0200, "the paper's capture");
     capture(glr, 37, verdicts, 9, 0, 2);
@@ -602,9 +631,14 @@ static void captures(void)
     p[5] = 8;
     p[6] = 1;
     capture(p, 5 + 2 + 2049, verdicts, 2, 15, 0);
+}
 
-    /* a thousand records of the longest length, every third cut */
+/* A thousand records of the longest length, every third cut. */
+static void long_capture(void)
+{
+    static uint8_t verdicts[1200];
     size_t len = 5;
+    memcpy(p, glr, 5);
     for (size_t i = 0; i < 1000; i++) {
         put(p + len, 2048);
         size_t n = packet_of(p + len + 2, 4, 17, 2028);
@@ -633,7 +667,8 @@ static void largest(void)
         int family;
         unsigned protocol;
         size_t message, fixed;
-    } kinds[] = {{4, 1, 65515, 8}, {4, 6, 65515, 20}, {4, 17, 65515, 8}, {6, 6, 65535, 20}, {6, 17, 65535, 8}, {6, 58, 65535, 4}};
+    } kinds[] = {{4, 1, 65515, 8}, {4, 6, 65515, 20}, {4, 17, 65515, 8},
+                 {6, 6, 65535, 20}, {6, 17, 65535, 8}, {6, 58, 65535, 4}};
     for (size_t i = 0; i < 2 * sizeof kinds / sizeof *kinds; i++) {
         size_t message = kinds[i / 2].message, body_len = message - kinds[i / 2].fixed;
         size_t len = packet_of(p, kinds[i / 2].family, kinds[i / 2].protocol, message);
@@ -661,19 +696,28 @@ int main(void)
     build(&second);
     build(&third);
     build(&fourth);
-    sums();
-    group("field, update, sum_chain");
+    fields();
+    group("field");
+    updates();
+    group("update");
+    chains();
+    group("sum_chain");
     judging();
+    refusals();
     group("judge");
     mending();
+    mending_each();
+    mending_corners();
     group("mend");
     lifetime();
     group("lower_lifetime");
     address();
     group("set_address");
     stretch();
+    stretch_each();
     group("set_stretch");
     captures();
+    long_capture();
     group("judge_capture");
     largest();
     group("largest packets");

@@ -82,13 +82,16 @@ def tshark(packets):
         words = ["tshark", "-n", "-r", file.name, "-T", "fields", "-E", "separator=,", "-E", "occurrence=f"]
         words += [w for f in fields for w in ("-e", f + ".checksum.status")]
         words += [w for f in ("ip", "udp", "tcp") for w in ("-o", f + ".check_checksum:TRUE")]
-        lines = subprocess.run(words, stdout=subprocess.PIPE, stderr=subprocess.DEVNULL, check=True, text=True).stdout.splitlines()
+        said = subprocess.run(words, stdout=subprocess.PIPE, stderr=subprocess.DEVNULL, check=True, text=True).stdout
+    lines = said.splitlines()
     assert len(lines) == len(packets)
+    numbers = {"Bad": "0", "Good": "1", "Not present": "3"}  # some editions print words
     verdicts = []
     for line in lines:
-        header, *messages = [{"Bad": "0", "Good": "1", "Not present": "3"}.get(s, s) for s in line.split(",")]
+        header, *messages = [numbers.get(s, s) for s in line.split(",")]
         message = next((s for s in messages if s), None)
-        verdicts.append(HEADER_SUM if header == "0" else {"0": MESSAGE_SUM, "1": GOOD, "3": UNSUMMED}.get(message))
+        found = {"0": MESSAGE_SUM, "1": GOOD, "3": UNSUMMED}.get(message)
+        verdicts.append(HEADER_SUM if header == "0" else found)
     return verdicts
 
 
@@ -114,12 +117,15 @@ def scapy_made():
     """A packet of random content, with sums by scapy."""
     payload = rng.randbytes(rng.choice([*range(70), *range(70), 255, 256, 511, 777, 1300, 1400]))
     ports = {"sport": rng.randrange(1024, 65536), "dport": rng.randrange(1024, 65536)}
-    tcp_options = rng.choice([[], [("MSS", 1460)], [("NOP", None), ("NOP", None), ("Timestamp", (rng.getrandbits(32), 7))]])
-    tcp = TCP(seq=rng.getrandbits(32), ack=rng.getrandbits(32), flags=rng.choice(["S", "A", "PA", "FA", "R"]), options=tcp_options, **ports)
+    stamp = [("NOP", None), ("NOP", None), ("Timestamp", (rng.getrandbits(32), 7))]
+    tcp = TCP(
+        seq=rng.getrandbits(32), ack=rng.getrandbits(32), flags=rng.choice(["S", "A", "PA", "FA", "R"]),
+        options=rng.choice([[], [("MSS", 1460)], stamp]), **ports,
+    )
     if rng.random() < 0.5:
         ip = IP(
-            src=".".join(map(str, rng.randbytes(4))), dst=".".join(map(str, rng.randbytes(4))), ttl=rng.randrange(2, 256),
-            id=rng.getrandbits(16), tos=rng.getrandbits(8), flags=rng.choice(["", "DF"]),
+            src=".".join(map(str, rng.randbytes(4))), dst=".".join(map(str, rng.randbytes(4))),
+            ttl=rng.randrange(2, 256), id=rng.getrandbits(16), tos=rng.getrandbits(8), flags=rng.choice(["", "DF"]),
             options=rng.choice([[], [], [IPOption_NOP()], [IPOption_Router_Alert()]]),
         )
         icmp = ICMP(type=rng.choice([0, 8]), id=rng.getrandbits(16), seq=rng.getrandbits(16))
@@ -133,8 +139,8 @@ def scapy_made():
         )
         echo = {"id": rng.getrandbits(16), "seq": rng.getrandbits(16), "data": payload}
         message = rng.choice([
-            tcp, UDP(**ports), ICMPv6EchoRequest(**echo), ICMPv6EchoReply(**echo), ICMPv6Unknown(type=200, msgbody=payload),
-            ICMPv6ND_NS(tgt="fe80::1"), ICMPv6ND_NA(tgt="fe80::2"),
+            tcp, UDP(**ports), ICMPv6EchoRequest(**echo), ICMPv6EchoReply(**echo),
+            ICMPv6Unknown(type=200, msgbody=payload), ICMPv6ND_NS(tgt="fe80::1"), ICMPv6ND_NA(tgt="fe80::2"),
         ])
     if isinstance(message, (TCP, UDP, ICMP)):
         message = message / Raw(payload)
@@ -144,8 +150,10 @@ def scapy_made():
 
 def zero_made(i):
     """A packet whose sums come out 0000, so that UDP is sent with FFFF."""
-    ip = IP(src="10.0.0.1", dst="10.0.0.2", ttl=2 + i, id=0) if i % 2 else IPv6(src="fd00::1", dst="fd00::2", hlim=2 + i)
-    echo = ICMP(id=i) if i % 2 else ICMPv6EchoRequest(id=i)
+    if i % 2:
+        ip, echo = IP(src="10.0.0.1", dst="10.0.0.2", ttl=2 + i, id=0), ICMP(id=i)
+    else:
+        ip, echo = IPv6(src="fd00::1", dst="fd00::2", hlim=2 + i), ICMPv6EchoRequest(id=i)
     message = [UDP(sport=40000 + i, dport=50000), TCP(sport=40000 + i, dport=50000), echo][i % 3]
     packet = Packet(bytes(ip / message / Raw(b"\0\0")))
     if packet.four:
@@ -188,8 +196,8 @@ def check_good(who, packets):
 def damaged(packet):
     """A packet with one bit or one byte changed where a sum must see it."""
     header = [1, 4, 5, 8, *range(10, 20)] if packet.four else range(8, 40)
-    message = [i for i in range(packet.start, packet.end)
-               if not (packet.protocol == 17 and i - packet.start in (4, 5)) and not (packet.protocol == 6 and i - packet.start == 12)]
+    lengths = {6: (12,), 17: (4, 5)}.get(packet.protocol, ())
+    message = [i for i in range(packet.start, packet.end) if i - packet.start not in lengths]
     at = rng.choice(header if packet.unsummed or rng.random() < 0.3 else message)
     data = bytearray(packet.data)
     data[at] ^= 1 << rng.randrange(8) if rng.random() < 0.5 else rng.randrange(1, 256)
@@ -206,12 +214,32 @@ def check_damaged(packets):
     count("damaged by us, one bit or one byte; refused by us and by tshark, for the same sum", agreed, len(broken))
 
 
+def wanted(letter, number, new, data):
+    """The packet after a request, its fields aside."""
+    packet, after = Packet(data), bytearray(data)
+    if letter == "l":
+        after[8 if packet.four else 7] -= 1
+    if letter in "as":
+        at = packet.body + number if letter == "s" else (12 if packet.four else 8) + number * len(new)
+        after[at:at + len(new)] = new
+    return fieldless(bytes(after))
+
+
+def fieldless(data):
+    packet, data = Packet(data), bytearray(data)
+    data[packet.field:packet.field + 2] = b"\0\0"
+    if packet.four:
+        data[10:12] = b"\0\0"
+    return data
+
+
 def check_changed(what, requests):
-    """Packets that we edit or mend: as good for tshark as they were before, and for us."""
+    """Packets that we edit or mend: changed as asked, and as good for tshark and us as they were before."""
     answers, agreed = ours(requests), 0
     results = [data for _, data in answers]
-    for (_, _, _, before), (verdict, data), we, they in zip(requests, answers, judged(results), tshark(results)):
-        if verdict == GOOD and we == they == (UNSUMMED if Packet(before).unsummed else GOOD):
+    for request, (verdict, data), we, they in zip(requests, answers, judged(results), tshark(results)):
+        good = UNSUMMED if Packet(request[3]).unsummed else GOOD
+        if verdict == GOOD and we == they == good and wanted(*request) == fieldless(data):
             agreed += 1
         else:
             disagree(f"{what}: answered {verdict}, we say {we}, tshark {they}", data)
@@ -241,7 +269,8 @@ def check_edits(packets):
     roomy = [data for data in packets if Packet(data).end > Packet(data).body]
     check_changed("stretch set", [stretch(data) for data in roomy for _ in range(STRETCHES)])
     check_changed("the same body set", [same(data) for data in roomy])
-    check_changed("two edits in turn", [address(data) for data in lowered] + [("l", 0, b"", data) for data in moved])
+    again = [address(data) for data in lowered] + [("l", 0, b"", data) for data in moved]
+    check_changed("two edits in turn", again)
 
 
 def scribbled(data):

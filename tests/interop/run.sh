@@ -18,8 +18,9 @@ if [ -n "$missing" ]; then
     DEBIAN_FRONTEND=noninteractive apt-get -qq install -y --no-install-recommends $missing >/dev/null
 fi
 
+archive=$($x86 lib)/libhifrostum.a
 mkdir -p $out
-$x86 cc -O2 -std=c11 -Wall -Wextra -Wpedantic -Iinclude tests/interop/ours.c "$($x86 lib)/libhifrostum.a" -o $out/ours
+$x86 cc -O2 -std=c11 -Wall -Wextra -Wpedantic -Iinclude tests/interop/ours.c "$archive" -o $out/ours
 
 # Two namespaces, a and b, and a pair of cards between them that leave the sums to the kernel.
 a=hifrostum-a-$$ b=hifrostum-b-$$ server='' capture=''

@@ -38,7 +38,7 @@ xor-false true = refl
 pub weigh-even : (p : Bool) (a b : List ℕ) → oddly a ≡ false → weigh p (a ++ b) ≡ weigh p a + weigh p b
 weigh-even p a b e = weigh-append p a b ∙ ap (λ o. weigh p a + weigh o b) (ap (xor p) e ∙ xor-false p)
 
--- a total is 0 exactly when no byte is other than 0
+-- a total is above 0 exactly when some byte is other than 0
 abbrev pub Some : List ℕ → Type 0
 Some xs = (i : ℕ) × (getD xs i 0 ≡ 0 → ⊥)
 

@@ -10,7 +10,7 @@ use verdicts::Verdict;
 ghost use mathlib.Core.Path.{_≡_};
 ghost use Prim.Native.Nat.{_+_, _≤_, _<_};
 ghost use lib.ListN.{length};
-ghost use Rattle.sums.specs.Total.{weigh, total};
+ghost use Rattle.sums.specs.Total.{weigh};
 ghost use Rattle.sums.specs.Fold.{fold, fieldOf};
 ghost use Rattle.sums.specs.Fold.{passes as Fold·passes};
 ghost use Rattle.sums.specs.Partials.{partialOf, joined, swapIf};

@@ -45,6 +45,10 @@ pub after-whole : {A : Type 0} (p : List ℕ) (rest : List Rule) (refuse : Verdi
 unfolding wholeOf
 after-whole p rest r g = first-append (wholeRules p) rest r g ∙ sym (first-map (parted r (first rest r g)) (wholeRules p) part.Refused (part.Whole (messageOf p)))
 
+pub by-whole : {A : Type 0} (p : List ℕ) (refuse : Verdict → A) (go : A) → first (wholeRules p) refuse go ≡ parted refuse go (wholeOf p)
+unfolding wholeOf
+by-whole p r g = sym (first-map (parted r g) (wholeRules p) part.Refused (part.Whole (messageOf p)))
+
 -- ---- each answer of `wholeOf`
 pub refused-outer : (p : List ℕ) (v : Verdict) → frame.Refused v ≡ outerOf p → part.Refused v ≡ wholeOf p
 unfolding wholeOf wholeRules

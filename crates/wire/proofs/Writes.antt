@@ -5,9 +5,9 @@ use mathlib.Core.Bool.{Bool, true, false}
 use mathlib.Core.List.{List, [], _∷_}
 use native.Mathlib.Omega.{arith}
 use native.Mathlib.Decide.{decLt}
-use lib.ListN.{length, set, length-set}
-use lib.Seq.{sets, sets-eq, paste, take-length, length-sets, getD-set-same, getD-set-other}
-use Rattle.wire.specs.Bytes.{byteAt, wordAt, put, putWord}
+use lib.ListN.{length, drop, set, length-set, length-drop}
+use lib.Seq.{sets, sets-eq, paste, take-length, length-take-le, length-sets, getD-set-same, getD-set-other, getD-take, getD-drop, ext-getD}
+use Rattle.wire.specs.Bytes.{byteAt, Bytes, wordAt, part, put, putWord}
 
 -- q is p with new bytes from at, and nothing else differs
 pub record Wrote (p q : List ℕ) (at : ℕ) (new : List ℕ) : Type 0 where
@@ -43,9 +43,6 @@ word-wrote {p} {q} {f} w h =
     omega (arith, h .inside 0 f (omega arith) (omega arith), h .inside 1 (f + 1) refl (omega arith))
 
 -- ---- bytes
-abbrev pub Bytes : List ℕ → Type 0
-Bytes p = (i : ℕ) → byteAt p i < 256
-
 pub bytes-wrote : {p q : List ℕ} {at : ℕ} {new : List ℕ} → Wrote p q at new → Bytes p → Bytes new → Bytes q
 bytes-wrote {p} {q} {at} {new} w bp bn i =
     elim (decLt i at) [
@@ -68,3 +65,13 @@ word-small p i b = omega (arith, b i, b (i + 1))
 pub put-paste : (p : List ℕ) (at : ℕ) (new : List ℕ) → at + length new ≤ length p → paste p at new (length new) ≡ put p at new
 unfolding put
 put-paste p at new h = rw (take-length new) (sym (sets-eq new p at h))
+
+-- a part in front of the new bytes
+pub part-below : {p q : List ℕ} {at : ℕ} {new : List ℕ} → Wrote p q at new → (a n : ℕ) → a + n ≤ at → a + n ≤ length p → part q a n ≡ part p a n
+part-below {p} {q} w a n h l =
+    let lq : length (part q a n) ≡ n = length-take-le n (drop a q) (let e = w .long in rw (length-drop a q) (omega arith)) in
+    let lp : length (part p a n) ≡ n = length-take-le n (drop a p) (rw (length-drop a p) (omega arith)) in
+    ext-getD 0 (part q a n) (part p a n) (lq ∙ sym lp)
+    (λ i g.
+    let k : i < n = omega arith in
+    getD-take n (drop a q) i 0 k ∙ getD-drop a q i 0 ∙ w .below (a + i) (omega arith) ∙ sym (getD-drop a p i 0) ∙ sym (getD-take n (drop a p) i 0 k))

@@ -1,0 +1,100 @@
+-- A capture is judged exactly when it is the layout of some packets that have places, and the answer is theirs.
+use mathlib.Core.Path.{_≡_, refl, sym, ap, ap₂, _∙_}
+use Prim.Native.Nat.{ℕ, zero, suc, _+_, _*_, _-_, _/_, _%_, _≤_, _<_}
+use native.Mathlib.Omega.{arith}
+use mathlib.Core.List.{List, [], _∷_, _++_, map}
+use mathlib.Core.Bool.{Bool, true, false, true≢false}
+use lib.ListN.{length, getD, take, drop, length-map, List·getD-map}
+use lib.Seq.{getD-drop}
+use lib.Dec.{ltb, eqb}
+use borrow.Author.Tests.{le-ltb, ltb-false, eqb-true, not-false}
+use Rattle.verdicts.specs.Numbers.{numberOf}
+use Rattle.verdicts.specs.Rules.{_⇒_, verdictBy}
+use Rattle.verdicts.specs.declared.Verdict.{Verdict}
+use Rattle.verdicts.specs.declared.Verdict.the-variants.{Good, Mark, Edition, Record, Room}
+use Rattle.verdicts.proofs.Rules.{first-map}
+use Rattle.verdicts.proofs.Tests.{or-false, and-true}
+use Rattle.wire.specs.Bytes.{byteAt, Bytes, wordAt, put}
+use Rattle.wire.proofs.Writes.{put-wrote}
+use Rattle.judge.specs.Judge.{judgeOf}
+use Rattle.capture.specs.Records.{Records, otherMark, otherEdition, recordsIn, readOf, laid, captureOf, Small}
+use Rattle.capture.specs.Judged.{headRules, recordRules, captureRules, verdictsOf, judgedOf}
+use Rattle.capture.specs.declared.Judged.{Judged}
+use Rattle.capture.proofs.Passes.{verdicts-length}
+use Rattle.capture.proofs.Laid.{read-laid, read-small, laid-read}
+
+-- ---- the head
+mark-laid : (ps : List (List ℕ)) → otherMark (captureOf ps) ≡ false
+unfolding otherMark captureOf
+mark-laid ps = simp (le-ltb (length (captureOf ps)) 3 (omega arith))
+
+edition-laid : (ps : List (List ℕ)) → otherEdition (captureOf ps) ≡ false
+unfolding otherEdition captureOf
+edition-laid ps = simp (le-ltb (length (captureOf ps)) 5 (omega arith))
+
+five : (c : List ℕ) → 5 ≤ length c → c ≡ byteAt c 0 ∷ byteAt c 1 ∷ byteAt c 2 ∷ byteAt c 3 ∷ byteAt c 4 ∷ drop 5 c
+five [] h = absurd (omega arith)
+five (p ∷ []) h = absurd (omega arith)
+five (p ∷ q ∷ []) h = absurd (omega arith)
+five (p ∷ q ∷ r ∷ []) h = absurd (omega arith)
+five (p ∷ q ∷ r ∷ s ∷ []) h = absurd (omega arith)
+five (p ∷ q ∷ r ∷ s ∷ t ∷ xs) h = refl
+
+-- a head that isn't refused is the mark and version 1
+head-laid : (c : List ℕ) → Bytes c → otherMark c ≡ false → otherEdition c ≡ false → c ≡ 0x47 ∷ 0x4C ∷ 0x52 ∷ 0x00 ∷ 0x01 ∷ drop 5 c
+unfolding otherMark otherEdition
+head-laid c b m e =
+    let long = or-false (ltb (length c) 5) _ e in
+    let mark = and-true (eqb (byteAt c 0) 0x47) _ (not-false _ (or-false (ltb (length c) 3) _ m .1)) in
+    let rest = and-true (eqb (byteAt c 1) 0x4C) _ (mark .1) in
+    let version = eqb-true (wordAt c 3) 1 (not-false _ (long .1)) in
+    let p = eqb-true (byteAt c 0) 0x47 (mark .0) in
+    let q = eqb-true (byteAt c 1) 0x4C (rest .0) in
+    let r = eqb-true (byteAt c 2) 0x52 (rest .1) in
+    let s : byteAt c 3 ≡ 0 = omega (arith, b 3, b 4) in
+    let t : byteAt c 4 ≡ 1 = omega (arith, b 3, b 4) in
+    five c (ltb-false (length c) 5 (long .0)) ∙ (cc)
+
+-- ---- the theorems
+-- the records of a layout are its packets
+pub records-laid : (ps : List (List ℕ)) → Small ps → recordsIn (captureOf ps) ≡ record { packets = ps; broken = false }
+unfolding captureOf
+records-laid ps s = read-laid ps s
+
+-- the answer to a layout with room for it: each packet's verdict, in order
+pub judged-laid : (ps : List (List ℕ)) (buffer : List ℕ) → Small ps → length ps ≤ length buffer
+    → judgedOf (captureOf ps) buffer ≡ (record { verdict = Good; count = length ps }, put buffer 0 (verdictsOf ps))
+unfolding judgedOf captureRules
+judged-laid ps buffer s h = simp (mark-laid ps, edition-laid ps, records-laid ps s, le-ltb (length buffer) (length ps) h)
+
+all-clear : (m e d r : Bool) → verdictBy ((m ⇒ Mark) ∷ (e ⇒ Edition) ∷ (d ⇒ Record) ∷ (r ⇒ Room) ∷ []) ≡ Good → (m ≡ false) × (e ≡ false) × (d ≡ false) × (r ≡ false)
+all-clear true e d r g = absurd (omega (arith, ap numberOf g))
+all-clear false true d r g = absurd (omega (arith, ap numberOf g))
+all-clear false false true r g = absurd (omega (arith, ap numberOf g))
+all-clear false false false true g = absurd (omega (arith, ap numberOf g))
+all-clear false false false false g = (refl, refl, refl, refl)
+
+-- a capture that isn't refused is the layout of its records, which are small and have places
+pub judged-good : (c buffer : List ℕ) → Bytes c → judgedOf c buffer .0 .verdict ≡ Good
+    → (c ≡ captureOf (recordsIn c .packets)) × Small (recordsIn c .packets) × (length (recordsIn c .packets) ≤ length buffer)
+unfolding judgedOf captureRules captureOf
+judged-good c buffer b g =
+    let a = all-clear _ _ _ _ (sym (first-map (λ (q : Judged × List ℕ). q .0 .verdict) (captureRules c (length buffer)) _ _) ∙ g) in (
+      head-laid c b (a .0) (a .1) ∙ ap (λ xs. 0x47 ∷ 0x4C ∷ 0x52 ∷ 0x00 ∷ 0x01 ∷ xs) (sym (laid-read (drop 5 c) (λ i. rw getD-drop (b (5 + i))) (a .2))),
+      read-small (drop 5 c),
+      ltb-false (length buffer) (length (recordsIn c .packets)) (a .3),
+    )
+
+verdict-at : (ps : List (List ℕ)) (i : ℕ) → i < length ps → byteAt (verdictsOf ps) i ≡ numberOf (judgeOf (getD ps i []))
+unfolding verdictsOf
+verdict-at [] i h = absurd (omega arith)
+verdict-at (p ∷ ps) zero h = refl
+verdict-at (p ∷ ps) (suc i) h = verdict-at ps i (omega arith)
+
+-- each verdict stands at its record's place, and the bytes past them stay
+pub judged-places : (ps : List (List ℕ)) (buffer : List ℕ) → length ps ≤ length buffer
+    → ((i : ℕ) → i < length ps → byteAt (put buffer 0 (verdictsOf ps)) i ≡ numberOf (judgeOf (getD ps i [])))
+    × ((i : ℕ) → length ps ≤ i → byteAt (put buffer 0 (verdictsOf ps)) i ≡ byteAt buffer i)
+judged-places ps buffer h =
+    let w = put-wrote buffer 0 (verdictsOf ps) (rw verdicts-length (omega arith)) in
+    (λ i l. w .inside i i (omega arith) (rw verdicts-length l) ∙ verdict-at ps i l, λ i l. w .above i (rw verdicts-length (omega arith)))

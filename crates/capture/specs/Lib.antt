@@ -1,0 +1,3 @@
+-- The hut's capture: what its records are, and the verdicts on them.
+pub mod Records
+pub mod Judged

@@ -1,0 +1,70 @@
+-- Sequences of edits, and what they write when no sum is updated.
+use Prim.Native.Nat.{ℕ, _+_, _<_}
+use mathlib.Core.Path.{_≡_}
+use mathlib.Core.Logic.{_⊎_}
+use mathlib.Core.List.{List, [], _∷_, _++_}
+use mathlib.Core.Bool.{true}
+use Rattle.verdicts.specs.Rules.{Rule, first}
+use Rattle.verdicts.specs.declared.Verdict.{Verdict}
+use Rattle.wire.specs.Bytes.{Bytes, put}
+use Rattle.wire.specs.Outer.{four}
+use Rattle.wire.specs.Inner.{fieldAt, bodyOf}
+use Rattle.edit.specs.Edits.{editRules, lifeAt, lowered, lifetimeRules, lifetimeOf, sideAt, addressRules, addressOf, stretchRules, stretchOf}
+
+pub data Edit : Type 0 where
+  lifetime : Edit
+  address : ℕ → List ℕ → Edit
+  stretch : ℕ → List ℕ → Edit
+
+-- an edit's answer and what it leaves: what the three functions promise
+abbrev pub apply : Edit → List ℕ → Verdict × List ℕ
+apply lifetime p = lifetimeOf p
+apply (address side new) p = addressOf p side new
+apply (stretch place new) p = stretchOf p place new
+
+-- one edit after the other, refused ones included
+abbrev pub run : List Edit → List ℕ → List ℕ
+run [] p = p
+run (e ∷ es) p = run es (apply e p .1)
+
+-- ---- the same edits with no sums at all
+abbrev pub rulesOf : Edit → List ℕ → List Rule
+rulesOf lifetime p = editRules p ++ lifetimeRules p
+rulesOf (address side new) p = editRules p ++ addressRules p side new
+rulesOf (stretch place new) p = editRules p ++ stretchRules p place new
+
+-- where an edit writes, and what
+abbrev pub placeOf : Edit → List ℕ → ℕ
+placeOf lifetime p = lifeAt p
+placeOf (address side new) p = sideAt p side
+placeOf (stretch place new) p = bodyOf p + place
+
+abbrev pub newOf : Edit → List ℕ → List ℕ
+newOf lifetime p = lowered p
+newOf (address side new) p = new
+newOf (stretch place new) p = new
+
+-- the bytes r with what an edit that p accepts writes
+abbrev pub written : Edit → List ℕ → List ℕ → List ℕ
+written e p r = first (rulesOf e p) (λ v. r) (put r (placeOf e p) (newOf e p))
+
+-- the bytes r with what each accepted edit writes, in order
+abbrev pub bare : List Edit → List ℕ → List ℕ → List ℕ
+bare [] p r = r
+bare (e ∷ es) p r = bare es (apply e p .1) (written e p r)
+
+-- ---- what the theorems speak of
+-- new bytes are bytes
+abbrev pub Fit : Edit → Type 0
+Fit lifetime = Unit
+Fit (address side new) = Bytes new
+Fit (stretch place new) = Bytes new
+
+abbrev pub Fits : List Edit → Type 0
+Fits [] = Unit
+Fits (e ∷ es) = Fit e × Fits es
+
+-- i is no byte of a sum field
+pub record Outside (p : List ℕ) (i : ℕ) : Type 0 where
+  pub header : four p ≡ true → (i < 10) ⊎ (11 < i)
+  pub message : (i < fieldAt p) ⊎ (fieldAt p + 1 < i)

@@ -1,0 +1,45 @@
+-- IPv4's field is set to the fresh one; IPv6 has none.
+use mathlib.Core.Path.{_≡_, _∙_, sym, ap}
+use Prim.Native.Nat.{ℕ}
+use native.Mathlib.Omega.{arith}
+use mathlib.Core.List.{List}
+use denote.Ref.{now}
+use Rattle.wire.specs.Bytes.{putWord}
+use Rattle.wire.specs.Outer.{familyOf}
+use Rattle.wire.specs.declared.Message.{Message}
+use Rattle.wire.proofs.Held.{held-facts, is-four, is-six}
+use Rattle.mend.specs.Mend.{mendedHeader}
+use borrow.Author.Needs.{needs}
+use Rattle.mend.proofs.mend_header.Statement.{statement}
+use Rattle.mend.proofs.mend_header.Tie as tie
+
+abbrev P : tie.Start → List ℕ
+P c = now (c .args .packet)
+
+family : (c : tie.Start) → c .args .m .family ≡ familyOf (P c)
+family c = ap (λ (m : Message). m .family) (c .pre .is)
+
+returns : tie.Need-returns
+unfolding mendedHeader
+returns c =
+    let d = c .before .before .before .before in
+    let b = d .before .before .before .before .before in
+    c .before .before .put-word .ensures
+    ∙ ap (λ (w : ℕ). putWord (P b) 10 w) (d .fresh-header .ensures)
+    ∙ sym (simp (is-four (P b) (sym (family b) ∙ d .before .before .enum-told .given .1)))
+
+returns-2 : tie.Need-returns-2
+unfolding mendedHeader
+returns-2 c = let b = c .before .before .before in sym (simp (is-six (P b) (sym (family b) ∙ c .enum-told2 .given .1)))
+
+pub mend-header-spec : {M : Type 1} → statement M
+mend-header-spec =
+    tie.close
+    (tie.spec
+    (λ c. search needs)
+    (λ c κs. search needs)
+    (λ c κs. let f = held-facts (c .before .before .before .before .before .before .pre) in omega arith)
+    (λ c. search needs)
+    (λ c. search needs)
+    returns
+    returns-2)
