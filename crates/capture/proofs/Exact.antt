@@ -20,42 +20,10 @@ use Rattle.judge.specs.Judge.{judgeOf}
 use Rattle.capture.specs.Records.{Records, otherMark, otherEdition, recordsIn, readOf, laid, captureOf, Small}
 use Rattle.capture.specs.Judged.{headRules, recordRules, captureRules, verdictsOf, judgedOf}
 use Rattle.capture.specs.declared.Judged.{Judged}
+use Rattle.capture.proofs.Heads.{mark-laid, edition-laid, head-laid}
 use Rattle.capture.proofs.Passes.{verdicts-length}
 use Rattle.capture.proofs.Laid.{read-laid, read-small, laid-read}
 
--- ---- the head
-mark-laid : (ps : List (List ℕ)) → otherMark (captureOf ps) ≡ false
-unfolding otherMark captureOf
-mark-laid ps = simp (le-ltb (length (captureOf ps)) 3 (omega arith))
-
-edition-laid : (ps : List (List ℕ)) → otherEdition (captureOf ps) ≡ false
-unfolding otherEdition captureOf
-edition-laid ps = simp (le-ltb (length (captureOf ps)) 5 (omega arith))
-
-five : (c : List ℕ) → 5 ≤ length c → c ≡ byteAt c 0 ∷ byteAt c 1 ∷ byteAt c 2 ∷ byteAt c 3 ∷ byteAt c 4 ∷ drop 5 c
-five [] h = absurd (omega arith)
-five (p ∷ []) h = absurd (omega arith)
-five (p ∷ q ∷ []) h = absurd (omega arith)
-five (p ∷ q ∷ r ∷ []) h = absurd (omega arith)
-five (p ∷ q ∷ r ∷ s ∷ []) h = absurd (omega arith)
-five (p ∷ q ∷ r ∷ s ∷ t ∷ xs) h = refl
-
--- a head that isn't refused is the mark and version 1
-head-laid : (c : List ℕ) → Bytes c → otherMark c ≡ false → otherEdition c ≡ false → c ≡ 0x47 ∷ 0x4C ∷ 0x52 ∷ 0x00 ∷ 0x01 ∷ drop 5 c
-unfolding otherMark otherEdition
-head-laid c b m e =
-    let long = or-false (ltb (length c) 5) _ e in
-    let mark = and-true (eqb (byteAt c 0) 0x47) _ (not-false _ (or-false (ltb (length c) 3) _ m .1)) in
-    let rest = and-true (eqb (byteAt c 1) 0x4C) _ (mark .1) in
-    let version = eqb-true (wordAt c 3) 1 (not-false _ (long .1)) in
-    let p = eqb-true (byteAt c 0) 0x47 (mark .0) in
-    let q = eqb-true (byteAt c 1) 0x4C (rest .0) in
-    let r = eqb-true (byteAt c 2) 0x52 (rest .1) in
-    let s : byteAt c 3 ≡ 0 = omega (arith, b 3, b 4) in
-    let t : byteAt c 4 ≡ 1 = omega (arith, b 3, b 4) in
-    five c (ltb-false (length c) 5 (long .0)) ∙ (cc)
-
--- ---- the theorems
 -- the records of a layout are its packets
 pub records-laid : (ps : List (List ℕ)) → Small ps → recordsIn (captureOf ps) ≡ record { packets = ps; broken = false }
 unfolding captureOf

@@ -31,7 +31,7 @@ read-laid (p ∷ ps) s =
 -- ---- read, then laid out
 -- each packet that was read has at most 2,048 bytes
 pub read-small : (xs : List ℕ) → Small (readOf xs .packets)
-read-small = by-reading (λ xs r. Small (r .packets)) (λ xs e. tt) (λ xs s. tt) (λ xs n w on. (simp length-take (omega arith), on))
+read-small = by-reading (λ xs r. Small (r .packets)) (λ xs e. tt) (λ xs s d. tt) (λ xs n w on. (simp length-take (omega arith), on))
 
 -- a length that was read is written in the same two bytes
 same-length : (xs : List ℕ) (n : ℕ) → Bytes xs → Whole xs n → (n / 256 ∷ n % 256 ∷ drop 2 xs) ≡ xs
@@ -48,7 +48,7 @@ unfolding laid
 laid-read =
     by-reading (λ xs r. Bytes xs → r .broken ≡ false → laid (r .packets) ≡ xs)
     (λ xs e b s. sym (drop-of-length-le xs {i = 0} (omega arith)))
-    (λ xs h b s. absurd (true≢false s))
+    (λ xs h d b s. absurd (true≢false s))
     (λ xs n w on b s.
     let long : length (part xs 2 n) ≡ n = length-take-le n (drop 2 xs) (rw length-drop (omega arith)) in
     let rest : laid (readOf (drop (2 + n) xs) .packets) ≡ drop n (drop 2 xs) = on (λ i. rw getD-drop (b (2 + n + i))) s ∙ sym (drop-drop n 2 xs) in

@@ -67,9 +67,25 @@ module _ (c : List ℕ) (at : ℕ) where
 
   past : {f : Front} → Begins (drop at c) f → frontOf (drop at c) ≡ f → Past c at (placed at f)
   past (ends z) e = at-last (read-end (drop at c) e)
-  past (breaks s) e = at-damage (read-damage (drop at c) e)
+  past (breaks s d) e = at-damage (read-damage (drop at c) e)
   past (holds n w) e = at-record (at + 2) (at + 2 + n) (passed n w e)
 
   pub past-here : (found : Found) → found ≡ recordAt c at → Past c at found
   unfolding recordAt
   past-here found e = rw e (past (begins (drop at c)) refl)
+
+-- where no record is found, none is left
+pub none-left : {c : List ℕ} {at : ℕ} {found : Found} → Past c at found → ((start end : ℕ) → found ≡ Record start end → ⊥) → readOf (drop at c) .packets ≡ []
+none-left (at-record start end p) n = absurd (n start end refl)
+none-left (at-last e) n = ap (λ (r : Records). r .packets) e
+none-left (at-damage e) n = ap (λ (r : Records). r .packets) e
+
+module _ {c : List ℕ} {at : ℕ} where
+  pub is-record : {start end : ℕ} → Past c at (Record start end) → Passed c at start end
+  is-record (at-record start end p) = p
+
+  pub is-last : Past c at End → readOf (drop at c) ≡ none
+  is-last (at-last e) = e
+
+  pub is-damage : Past c at Damaged → readOf (drop at c) ≡ record { packets = []; broken = true }
+  is-damage (at-damage e) = e

@@ -8,7 +8,7 @@ use mathlib.Core.Bool.{Bool, true, false}
 use lib.ListN.{length, drop, length-drop}
 use lib.Seq.{getD-drop}
 use lib.Dec.{ltb, eqb}
-use borrow.Author.Tests.{lt-ltb, le-ltb, eq-eqb, ne-eqb, ltb-false, eqb-true, eqb-false}
+use borrow.Author.Tests.{lt-ltb, le-ltb, eq-eqb, ne-eqb, ltb-true, ltb-false, eqb-true, eqb-false}
 use Rattle.verdicts.proofs.Tests.{by-cases, or-false}
 use Rattle.wire.specs.Bytes.{wordAt, part}
 use Rattle.capture.specs.Records.{Front, nothing, damage, whole, damaged, frontOf, Records, none, _before_, going, readBy, readOf}
@@ -45,7 +45,7 @@ pub record Whole (xs : List ℕ) (n : ℕ) : Type 0 where
 -- which of the three it is
 pub data Begins (xs : List ℕ) : Front → Type 0 where
   ends : length xs ≡ 0 → Begins xs nothing
-  breaks : 0 < length xs → Begins xs damage
+  breaks : 0 < length xs → damaged xs ≡ true → Begins xs damage
   holds : (n : ℕ) → Whole xs n → Begins xs (whole n)
 
 pub begins : (xs : List ℕ) → Begins xs (frontOf xs)
@@ -56,11 +56,28 @@ begins xs =
     (λ e.
     let n = eqb-false (length xs) 0 e in
     by-cases (damaged xs)
-    (λ d. simp (e, d) (breaks (omega arith)))
+    (λ d. simp (e, d) (breaks (omega arith) d))
     (λ d.
     let o = or-false (ltb (length xs) 2) _ d in
     let q = or-false (ltb 2048 (wordAt xs 0)) _ (o .1) in
     simp (e, d) (holds (wordAt xs 0) (record { size = refl; small = ltb-false 2048 (wordAt xs 0) (q .0); there = ltb-false (length xs) (2 + wordAt xs 0) (q .1) }))))
+
+-- what is damaged: a cut length, a length over 2,048, or a cut packet
+pub data Damage (xs : List ℕ) : Type 0 where
+  cut-length : length xs < 2 → Damage xs
+  too-long : 2 ≤ length xs → 2048 < wordAt xs 0 → Damage xs
+  cut-packet : 2 ≤ length xs → wordAt xs 0 ≤ 2048 → length xs < 2 + wordAt xs 0 → Damage xs
+
+pub damage-is : (xs : List ℕ) → damaged xs ≡ true → Damage xs
+unfolding damaged
+damage-is xs d =
+    by-cases (ltb (length xs) 2)
+    (λ a. cut-length (ltb-true (length xs) 2 a))
+    (λ a.
+    let two = ltb-false (length xs) 2 a in
+    by-cases (ltb 2048 (wordAt xs 0))
+    (λ b. too-long two (ltb-true 2048 (wordAt xs 0) b))
+    (λ b. cut-packet two (ltb-false 2048 (wordAt xs 0) b) (ltb-true (length xs) (2 + wordAt xs 0) (simp (a, b) at d))))
 
 -- ---- the records one after the other
 same-going : (f : Front) (a b : ℕ → Records) → ((n : ℕ) → f ≡ whole n → a n ≡ b n) → going f a ≡ going f b
@@ -97,11 +114,11 @@ module _ (xs : List ℕ) where
 -- what holds of the end, of damage, and of a record before what it holds of, holds of all that is read
 module _ (P : List ℕ → Records → Type 0)
     (end : (xs : List ℕ) → length xs ≡ 0 → P xs none)
-    (break : (xs : List ℕ) → 0 < length xs → P xs (record { packets = []; broken = true }))
+    (break : (xs : List ℕ) → 0 < length xs → damaged xs ≡ true → P xs (record { packets = []; broken = true }))
     (more : (xs : List ℕ) (n : ℕ) → Whole xs n → P (drop (2 + n) xs) (readOf (drop (2 + n) xs)) → P xs (part xs 2 n before readOf (drop (2 + n) xs))) where
   turn : (xs : List ℕ) {f : Front} → Begins xs f → frontOf xs ≡ f → ((n : ℕ) → P (drop (2 + n) xs) (readOf (drop (2 + n) xs))) → P xs (readOf xs)
   turn xs (ends z) e on = rw (read-end xs e) (end xs z)
-  turn xs (breaks s) e on = rw (read-damage xs e) (break xs s)
+  turn xs (breaks s d) e on = rw (read-damage xs e) (break xs s d)
   turn xs (holds n w) e on = rw (read-whole xs n e) (more xs n w (on n))
 
   by-length : (k : ℕ) (xs : List ℕ) → length xs ≤ k → P xs (readOf xs)

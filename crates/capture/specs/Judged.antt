@@ -7,6 +7,7 @@ use lib.Dec.{ltb}
 use Rattle.verdicts.specs.Choice.{if_then_else_}
 use Rattle.verdicts.specs.Numbers.{numberOf}
 use Rattle.verdicts.specs.Rules.{Rule, _⇒_, first}
+use Rattle.verdicts.specs.declared.Verdict.{Verdict}
 use Rattle.verdicts.specs.declared.Verdict.the-variants.{Good, Mark, Edition, Record, Room}
 use Rattle.wire.specs.Bytes.{put}
 use Rattle.judge.specs.Judge.{judgeOf}
@@ -29,12 +30,16 @@ captureRules c places = headRules c ++ recordRules (recordsIn c) places
 unfoldable pub verdictsOf : List (List ℕ) → List ℕ
 verdictsOf packets = map (λ p. numberOf (judgeOf p)) packets
 
--- the answer, and the second buffer afterwards: beside a refusal the count is 0 and the buffer as it was
+-- beside a refusal the count is 0
+abbrev pub refusal : Verdict → Judged
+refusal v = record { verdict = v; count = 0 }
+
+-- the answer, and the second buffer afterwards, which a refusal leaves as it was
 unfoldable pub judgedOf : List ℕ → List ℕ → Judged × List ℕ
 judgedOf c buffer =
     let packets = recordsIn c .packets in
     first (captureRules c (length buffer))
-    (λ v. (record { verdict = v; count = 0 }, buffer))
+    (λ v. (refusal v, buffer))
     (record { verdict = Good; count = length packets }, put buffer 0 (verdictsOf packets))
 
 -- how many records there are, unless there is damage

@@ -11,7 +11,7 @@ ghost use Prim.Native.Nat.{_≤_};
 ghost use lib.ListN.{length};
 ghost use Rattle.wire.specs.Bytes.{put};
 ghost use Rattle.capture.specs.Records.{otherMark, otherEdition, recordAt, recordsIn};
-ghost use Rattle.capture.specs.Judged.{verdictsOf, countedOf, judgedOf};
+ghost use Rattle.capture.specs.Judged.{verdictsOf, refusal, judgedOf, countedOf};
 
 // The mark, "GLR", and the version behind it.
 const MARK_0: u8 = 0x47;
@@ -76,7 +76,7 @@ pub fn judge_capture(capture: &[u8], verdicts: &mut [u8]) -> Judged
 }
 
 fn refused(verdict: Verdict) -> Judged
-    ensures { λ r. ⌜ (r .verdict ≡ verdict) × (r .count ≡ 0) ⌝ }
+    ensures { λ r. ⌜ r ≡ refusal verdict ⌝ }
 {
     Judged { verdict, count: 0 }
 }

@@ -1,5 +1,6 @@
 -- What each edit answers, and the bytes that it leaves: the refusals in order, and then the new bytes with the fields updated.
-use Prim.Native.Nat.{ℕ, _+_, _-_}
+use Prim.Native.Nat.{ℕ, _+_, _-_, _%_, _≤_}
+use mathlib.Core.Path.{_≡_}
 use mathlib.Core.List.{List, [], _∷_, _++_}
 use mathlib.Core.Bool.{Bool, true, not, _&&_, _||_}
 use lib.ListN.{length}
@@ -10,14 +11,19 @@ use Rattle.verdicts.specs.declared.Verdict.{Verdict}
 use Rattle.verdicts.specs.declared.Verdict.the-variants.{Good, Place, Spent, Blank}
 use Rattle.wire.specs.Bytes.{byteAt, part, put, putWord}
 use Rattle.wire.specs.Outer.{four, startOf, endOf, protocolOf}
-use Rattle.wire.specs.Inner.{lengthOf, fieldAt, bodyOf, pseudo, wholeRules}
-use Rattle.wire.specs.Cover.{addressesAt, addressSize}
+use Rattle.wire.specs.Inner.{lengthOf, fieldAt, bodyOf, pseudo, messageOf, wholeRules}
+use Rattle.wire.specs.Cover.{addressesAt, addressSize, addressesLength}
+use Rattle.wire.specs.declared.Part.{Part}
+use Rattle.wire.specs.declared.Part.the-variants.{Refused, Whole}
 use Rattle.judge.specs.Judge.{missingRule}
 use Rattle.edit.specs.Update.{headerAfter, messageAfter}
 
 -- 2, 3, 4, 6, 7, 8 in the judge's order, sums not being looked at
 unfoldable pub editRules : List ℕ → List Rule
 editRules p = wholeRules p ++ missingRule p
+
+unfoldable pub editableOf : List ℕ → Part
+editableOf p = first (editRules p) Refused (Whole (messageOf p))
 
 -- ---- lifetime
 abbrev pub lifeAt : List ℕ → ℕ
@@ -32,6 +38,10 @@ lifetimeRules p = (ltb (byteAt p (lifeAt p)) 2 ⇒ Spent) ∷ []
 
 abbrev pub lifetimeLeft : List ℕ → List ℕ
 lifetimeLeft p = headerAfter p (lifeAt p) (lowered p) (put p (lifeAt p) (lowered p))
+
+-- what is answered where no earlier rule refuses
+abbrev pub lifetimeIn : List ℕ → Verdict × List ℕ
+lifetimeIn p = first (lifetimeRules p) (λ v. (v, p)) (Good, lifetimeLeft p)
 
 unfoldable pub lifetimeOf : List ℕ → Verdict × List ℕ
 lifetimeOf p = first (editRules p ++ lifetimeRules p) (λ v. (v, p)) (Good, lifetimeLeft p)
@@ -52,8 +62,17 @@ addressLeft p a new =
     let q = headerAfter p a new (put p a new) in
     if pseudo p then messageAfter p (a - addressesAt p) a new q else q
 
+abbrev pub addressIn : List ℕ → ℕ → List ℕ → Verdict × List ℕ
+addressIn p side new = first (addressRules p side new) (λ v. (v, p)) (Good, addressLeft p (sideAt p side) new)
+
 unfoldable pub addressOf : List ℕ → ℕ → List ℕ → Verdict × List ℕ
 addressOf p side new = first (editRules p ++ addressRules p side new) (λ v. (v, p)) (Good, addressLeft p (sideAt p side) new)
+
+-- n bytes from a lie in the addresses, at an even place: what the writing of an address asks
+pub record Addressed (p : List ℕ) (a n : ℕ) : Type 0 where
+  pub from : addressesAt p ≤ a
+  pub even : (a - addressesAt p) % 2 ≡ 0
+  pub to : a + n ≤ addressesAt p + addressesLength p
 
 -- ---- stretch: a place in the body and new bytes
 abbrev pub allZero : List ℕ → Bool

@@ -76,7 +76,7 @@ pub fn stored(seed: u64) -> Result<(Vec<u8>, u64), String> {
     Ok((maker.bytes, maker.count))
 }
 
-/// Fresh random cases, a few more than `count` at most.
+/// About `count` fresh random cases, never fewer.
 pub fn fuzz(seed: u64, count: u64, out: &mut impl Write) -> io::Result<()> {
     let mut maker = Maker::new(seed, None);
     while maker.count < count {

@@ -6,7 +6,7 @@ use crate::draft::KINDS;
 use crate::edit;
 use crate::judge::{JUDGED, RULES};
 use crate::mend;
-use crate::packet::{View, HEADER_FIELD, ICMP, ICMPV6, TCP, UDP};
+use crate::packet::{View, HEADER_FIELD, ICMP, ICMPV6, TABLE, TCP, UDP};
 use crate::verdict::*;
 use std::collections::BTreeSet;
 
@@ -74,6 +74,12 @@ impl Cover {
                 self.reach(format!("{operation} of IPv{family}: {} before {}", a.0, b.0));
             }
         }
+        if before.len() == view.least() {
+            self.reach(format!("{operation} of IPv{}: just the least bytes, verdict {verdict}", view.family));
+        }
+        if before.len() + 1 == view.end() {
+            self.reach(format!("{operation} of IPv{}: one byte missing, verdict {verdict}", view.family));
+        }
         if let (JUDGE, LEFT, Some(edit_verdict)) = (case.operation, case.source, self.edited) {
             self.reach(format!("judge after an edit's {edit_verdict}"));
         }
@@ -93,6 +99,7 @@ impl Cover {
 
     fn note_judged(&mut self, view: &View, verdict: Verdict) {
         self.reach(format!("judge of {} bytes", view.bytes.len()));
+        self.reach(format!("{}: message of {}, verdict {verdict}", kind_name(view.kind()), view.message_length()));
         if view.protocol() == TCP && view.bytes.len() >= view.end() {
             self.reach(format!("TCP in IPv{}: data offset {}, verdict {verdict}", view.family, view.data_offset()));
         }
@@ -359,6 +366,19 @@ fn wanted_lengths() -> Vec<String> {
         }
     }
     wanted.extend([65_535, 65_575].map(|length| format!("good: {length} bytes")));
+    for row in TABLE {
+        for name in row.families.iter().map(|family| kind_name((*family, row.protocol))) {
+            wanted.push(format!("{name}: message of {}, verdict {SHAPE}", row.fixed - 1));
+            wanted.push(format!("{name}: message of {}, verdict {GOOD}", row.fixed));
+        }
+    }
+    for (family, verdicts) in [(4, &[CUT, SHAPE, FRAGMENT, UNCOVERED][..]), (6, &[CUT, SHAPE, UNCOVERED])] {
+        for name in (JUDGE..=STRETCH).map(|operation| OPERATIONS[operation as usize]) {
+            let least = |verdict| format!("{name} of IPv{family}: just the least bytes, verdict {verdict}");
+            wanted.extend(verdicts.iter().map(least));
+            wanted.push(format!("{name} of IPv{family}: one byte missing, verdict {CUT}"));
+        }
+    }
     for family in [4, 6] {
         wanted.push(format!("good: IPv{family}, a tail longer than any packet"));
         wanted.extend((JUDGE..=STRETCH).map(|op| format!("{} of IPv{family}: a tail", OPERATIONS[op as usize])));

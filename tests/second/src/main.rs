@@ -19,7 +19,7 @@ const COMMANDS: [(&str, &[&str], &str); 4] = [
     (
         "fuzz",
         &["SEED", "COUNT"],
-        "Writes fresh random cases, COUNT of them or a few more, to standard output.\n\
+        "Writes about COUNT fresh random cases, never fewer, to standard output.\n\
          The same seed and count give the same cases.",
     ),
     (

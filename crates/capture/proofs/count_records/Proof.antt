@@ -1,54 +1,33 @@
+-- The loop keeps `Counting`, and what `record_at` answers says how it goes on.
+use mathlib.Core.Path.{sym, _∙_}
+use Prim.Native.Nat.{_-_}
+use native.Mathlib.Omega.{arith}
+use lib.ListN.{length}
+use Rattle.capture.proofs.Places.{Passed, past-here, is-record, is-last, is-damage}
+use Rattle.capture.proofs.Passes.{Counting, counting-start, counting-record, counting-end, counting-damage}
+use borrow.Author.Needs.{needs}
 use Rattle.capture.proofs.count_records.Statement.{statement}
 use Rattle.capture.proofs.count_records.Tie as tie
-use Rattle.capture.proofs.count_records.Reads as reads
-use Rattle.capture.proofs.count_records.Lts as lts
-use Rattle.capture.proofs.record_at.Reads as record-at-reads
 
 abbrev Inv-loop : tie.InvT-loop
-Inv-loop capture at₀ count₀ at count = ?
+Inv-loop capture at₀ count₀ at count = Counting capture at count
 
 abbrev μ-loop : tie.MeasureT-loop
-μ-loop capture at₀ count₀ at count = ?
+μ-loop capture at₀ count₀ at count = length capture - at
 
--- src/lib.rt:144:5
-loop-holds : tie.Need-loop-holds Inv-loop μ-loop
-loop-holds c = ?
+passed : (c : tie.After-known-told Inv-loop μ-loop)
+    → Passed (c .before .before .before .before .before .before .args .capture .now) (c .before .before .before .before .loop .at) (c .before .found .given .0 .0) (c .before .found .given .0 .1 .0)
+passed c = is-record (past-here _ _ _ (sym (c .before .found .given .1) ∙ c .before .before .before .record-at .ensures))
 
--- src/lib.rt:145:13
-record-at-requires : tie.Need-record-at-requires Inv-loop μ-loop
-record-at-requires c κs = ?
-
--- src/lib.rt:147:39
-enum-known-found : tie.Need-enum-known-found Inv-loop μ-loop
-enum-known-found c = ?
-
--- src/lib.rt:148:17
-add-count : tie.Need-add-count Inv-loop μ-loop
-add-count c = ?
-
--- src/lib.rt:144:5
-loop-less : tie.Need-loop-less Inv-loop μ-loop
-loop-less c = ?
-
--- src/lib.rt:144:5
-loop-again : tie.Need-loop-again Inv-loop μ-loop
-loop-again c = ?
-
--- src/lib.rt:151:27
-enum-told : tie.Need-enum-told Inv-loop μ-loop
-enum-told c = ?
-
--- src/lib.rt:151:27
 returns : tie.Need-returns Inv-loop μ-loop
-returns c = ?
+returns c = 
+    let b = c .before .before in
+    counting-end (is-last (past-here _ _ _ (sym (c .enum-told .given .1) ∙ b .record-at .ensures))) (b .before .loop .inv)
 
--- src/lib.rt:152:31
-enum-told-2 : tie.Need-enum-told-2 Inv-loop μ-loop
-enum-told-2 c = ?
-
--- src/lib.rt:152:31
 returns-2 : tie.Need-returns-2 Inv-loop μ-loop
-returns-2 c = ?
+returns-2 c = 
+    let b = c .before .before in
+    counting-damage (is-damage (past-here _ _ _ (sym (c .enum-told2 .given .1) ∙ b .record-at .ensures))) (b .before .loop .inv)
 
 pub count-records-spec : {M : Type 1} → statement M
 count-records-spec =
@@ -56,13 +35,13 @@ count-records-spec =
     (tie.spec
     Inv-loop
     μ-loop
-    loop-holds
-    record-at-requires
-    enum-known-found
-    add-count
-    loop-less
-    loop-again
-    enum-told
+    (λ c. counting-start)
+    (λ c κs. search needs)
+    (λ c. c .match .keys1)
+    (λ c. let p = passed c in omega arith)
+    (λ c. let p = passed c in omega arith)
+    (λ c. counting-record (passed c) (c .before .before .before .before .loop .inv))
+    (λ c. c .match .keys2)
     returns
-    enum-told-2
+    (λ c. c .match .keys3)
     returns-2)

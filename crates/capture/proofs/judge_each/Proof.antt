@@ -1,72 +1,40 @@
+-- The loop keeps `Judging`.
+use mathlib.Core.Path.{sym, ap, _∙_}
+use mathlib.Core.Logic.{⊎-elim}
+use Prim.Native.Nat.{_-_}
+use native.Mathlib.Omega.{arith}
+use denote.Enum.Declared.{tagOf}
+use lib.ListN.{length}
+use Rattle.verdicts.specs.Numbers.{numberOf}
+use Rattle.capture.proofs.Found.{the-type}
+use Rattle.capture.proofs.Places.{Passed, past-here, is-record, none-left}
+use Rattle.capture.proofs.Passes.{Judging, judging-start, judging-place, judging-record, judging-end}
+use borrow.Author.Needs.{needs}
 use Rattle.capture.proofs.judge_each.Statement.{statement}
 use Rattle.capture.proofs.judge_each.Tie as tie
-use Rattle.capture.proofs.judge_each.Reads as reads
-use Rattle.capture.proofs.judge_each.Lts as lts
-use Rattle.capture.proofs.record_at.Reads as record-at-reads
-use Rattle.judge.proofs.judge.Reads as judge-reads
-use Rattle.verdicts.proofs.number.Reads as number-reads
 
 abbrev Inv-loop : tie.InvT-loop
-Inv-loop capture verdicts₀ at₀ i₀ verdicts at i = ?
+Inv-loop capture verdicts₀ at₀ i₀ verdicts at i = Judging capture verdicts₀ verdicts at i
 
 abbrev μ-loop : tie.MeasureT-loop
-μ-loop capture verdicts₀ at₀ i₀ verdicts at i = ?
+μ-loop capture verdicts₀ at₀ i₀ verdicts at i = length capture - at
 
--- src/lib.rt:164:5
-loop-holds : tie.Need-loop-holds Inv-loop μ-loop
-loop-holds c = ?
+passed : (c : tie.After-known-told Inv-loop μ-loop)
+    → Passed (c .before .before .before .before .before .before .before .args .capture .now) (c .before .before .before .before .loop .at) (c .before .found .given .0 .0) (c .before .found .given .0 .1 .0)
+passed c = is-record (past-here _ _ _ (sym (c .before .found .given .1) ∙ c .before .before .before .record-at .ensures))
 
--- src/lib.rt:165:13
-record-at-requires : tie.Need-record-at-requires Inv-loop μ-loop
-record-at-requires c κs = ?
-
--- src/lib.rt:166:29
-enum-known-found : tie.Need-enum-known-found Inv-loop μ-loop
-enum-known-found c = ?
-
--- src/lib.rt:167:13
-same-length : tie.Need-same-length Inv-loop μ-loop
-same-length c = ?
-
--- src/lib.rt:167:13
 returns : tie.Need-returns Inv-loop μ-loop
-returns c = ?
+returns c = 
+    let b = c .before in
+    judging-end (none-left (past-here _ _ _ (b .record-at .ensures)) (λ s e q. ⊎-elim (λ k. omega (arith, ap (tagOf the-type) q)) (λ k. omega (arith, ap (tagOf the-type) q)) (c .match .keys2))) (b .before .loop .inv)
 
--- src/lib.rt:169:36
-sub-judge : tie.Need-sub-judge Inv-loop μ-loop
-sub-judge c = ?
-
--- src/lib.rt:169:36
-part-judge-start : tie.Need-part-judge-start Inv-loop μ-loop
-part-judge-start c = ?
-
--- src/lib.rt:169:36
-part-judge-end : tie.Need-part-judge-end Inv-loop μ-loop
-part-judge-end c = ?
-
--- src/lib.rt:169:30
-judge-requires : tie.Need-judge-requires Inv-loop μ-loop
-judge-requires c κs = ?
-
--- src/lib.rt:169:23
-number-requires : tie.Need-number-requires Inv-loop μ-loop
-number-requires c κs = ?
-
--- src/lib.rt:169:9
-slice-write-verdicts : tie.Need-slice-write-verdicts Inv-loop μ-loop
-slice-write-verdicts c = ?
-
--- src/lib.rt:170:9
 add-i : tie.Need-add-i Inv-loop μ-loop
-add-i c = ?
+add-i c = let k = c .before .before .before in let h = judging-place (passed k) (k .before .before .before .before .loop .inv) in omega arith
 
--- src/lib.rt:164:5
-loop-less : tie.Need-loop-less Inv-loop μ-loop
-loop-less c = ?
-
--- src/lib.rt:164:5
 loop-again : tie.Need-loop-again Inv-loop μ-loop
-loop-again c = ?
+loop-again c = 
+    let k = c .before .before .before in
+    judging-record (passed k) (c .number .ensures ∙ ap numberOf (c .before .judge .ensures)) (k .before .before .before .before .loop .inv)
 
 pub judge-each-spec : {M : Type 1} → statement M
 judge-each-spec =
@@ -74,17 +42,17 @@ judge-each-spec =
     (tie.spec
     Inv-loop
     μ-loop
-    loop-holds
-    record-at-requires
-    enum-known-found
-    same-length
+    (λ c. judging-start (c .before .before .pre))
+    (λ c κs. search needs)
+    (λ c. c .match .keys1)
+    (λ c. c .before .before .loop .inv .long)
     returns
-    sub-judge
-    part-judge-start
-    part-judge-end
-    judge-requires
-    number-requires
-    slice-write-verdicts
+    (λ c. passed c .order)
+    (λ c. passed c .order)
+    (λ c. passed c .within)
+    (λ c κs. search needs)
+    (λ c κs. search needs)
+    (λ c. let k = c .before .before .before in judging-place (passed k) (k .before .before .before .before .loop .inv))
     add-i
-    loop-less
+    (λ c. let p = passed (c .before .before .before) in omega arith)
     loop-again)

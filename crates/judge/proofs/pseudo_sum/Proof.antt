@@ -1,5 +1,5 @@
 -- The addresses and the rest are those of the definition, in each family.
-use mathlib.Core.Path.{_≡_, _∙_, sym, ap, ap₂}
+use mathlib.Core.Path.{_≡_, _∙_, sym, ap}
 use Prim.Native.Nat.{ℕ, _+_, _-_}
 use native.Mathlib.Omega.{arith}
 use mathlib.Core.List.{List}
@@ -10,7 +10,6 @@ use Rattle.sums.specs.Fold.{fold}
 use Rattle.wire.specs.Outer.{four, familyOf, startOf, endOf, protocolOf}
 use Rattle.wire.specs.Inner.{pseudo}
 use Rattle.wire.specs.declared.Message.{Message}
-use Rattle.wire.proofs.Facts.{Facts}
 use Rattle.wire.proofs.Held.{held-facts, is-four, is-six}
 use Rattle.judge.proofs.Before.{before-none, before-some}
 use borrow.Author.Needs.{needs}

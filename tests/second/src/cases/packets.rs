@@ -14,6 +14,7 @@ impl Maker {
         self.every_operation(&[], 6);
         for kind in KINDS {
             self.pairs_of_faults(kind);
+            self.bare_headers(kind);
             self.lengths(kind);
             self.cuts(kind);
             self.stretches(kind);
@@ -254,6 +255,19 @@ impl Maker {
         }
         for operation in [JUDGE, MEND, JUDGE, MEND, JUDGE] {
             self.left(operation, 0, &[]);
+        }
+    }
+
+    /// Nothing but a header, with each fault that a header can have.
+    fn bare_headers(&mut self, kind: (u8, u8)) {
+        use Fault::*;
+        let of_headers = [Spent, Protocol, Fragment, TotalLength, HeaderLength, Version, HeaderSum];
+        for fault in faults_of(kind).into_iter().filter(|fault| of_headers.contains(fault)) {
+            let mut packet = Shape::plain(kind, 0).good(&mut self.random);
+            declare(&mut packet, kind.0, 0);
+            packet.truncate(View::new(&packet).header_length());
+            spoil(&mut packet, kind.0, &[fault], &mut self.random);
+            self.every_operation(&packet, kind.0);
         }
     }
 

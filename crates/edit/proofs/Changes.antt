@@ -1,0 +1,161 @@
+-- The address edit and the stretch.
+use mathlib.Core.Path.{_≡_, refl, sym, _∙_}
+use mathlib.Core.Logic.{inl, inr}
+use Prim.Native.Nat.{ℕ, suc, _+_, _-_, _<_, _≤_}
+use native.Mathlib.Omega.{arith}
+use mathlib.Core.List.{List, [], _∷_}
+use mathlib.Core.Bool.{Bool, true, false, true≢false}
+use lib.ListN.{length}
+use lib.Dec.{eqb}
+use borrow.Author.Tests.{ltb-false, eqb-true, eqb-false, eq-eqb, ne-eqb, not-false}
+use Rattle.verdicts.specs.Rules.{clear}
+use Rattle.verdicts.proofs.Tests.{by-cases, or-false}
+use Rattle.sums.specs.Total.{weigh}
+use Rattle.wire.specs.Outer.{four, startOf, endOf, protocolOf}
+use Rattle.wire.specs.Inner.{lengthOf, bodyOf, fieldAt, pseudo}
+use Rattle.wire.specs.Bytes.{part, put, putWord, Bytes}
+use Rattle.wire.specs.Cover.{addressesAt, addressesLength, addressSize}
+use Rattle.wire.proofs.Writes.{put-wrote, bytes-wrote}
+use Rattle.wire.proofs.Facts.{Facts}
+use Rattle.wire.proofs.Same.{Same, same-self, same-step}
+use Rattle.judge.specs.Sums.{messageTotal}
+use Rattle.mend.proofs.Tally.{tally, weigh-tally}
+use Rattle.mend.proofs.Totals.{addressTally, restTally, message-tally}
+use Rattle.mend.proofs.Blocks.{header-out, message-out, message-address, message-in, message-some, addresses-end}
+use Rattle.mend.proofs.Places.{soft-header, soft-body, word-below, word-above}
+use Rattle.mend.proofs.Fresh.{sameF, header-carry, message-carry, header-self, message-self}
+use Rattle.mend.proofs.Accepted.{Accepted}
+use Rattle.edit.specs.Update.{messageAfter}
+use Rattle.edit.specs.Edits.{sideAt, addressRules, addressLeft, allZero, blank, stretchRules, stretchLeft}
+use Rattle.edit.specs.Runs.{Outside}
+use Rattle.edit.proofs.Steps.{Kept, header-step, message-step}
+
+pub record Placed (p : List ℕ) (at n : ℕ) : Type 0 where
+  pub low : 8 ≤ at
+  pub low4 : four p ≡ true → 12 ≤ at
+  pub from : addressesAt p ≤ at
+  pub to : at + n ≤ addressesAt p + addressesLength p
+
+pub side-places : (p : List ℕ) (side : ℕ) (new : List ℕ) → clear (addressRules p side new) → Placed p (sideAt p side) (length new)
+side-places p side new c =
+    let e = eqb-true (length new) (addressSize p) (not-false (eqb (length new) (addressSize p)) (c .1 .0)) in
+    rw e
+    (by-cases (four p)
+    (λ f. by-cases (eqb side 0)
+    (λ s. simp (f, s) (record { low = omega arith; low4 = λ g. omega arith; from = simp f (omega arith); to = simp f (omega arith) }))
+    (λ s. simp (f, s) (record { low = omega arith; low4 = λ g. omega arith; from = simp f (omega arith); to = simp f (omega arith) })))
+    (λ f. by-cases (eqb side 0)
+    (λ s. simp (f, s) (record { low = omega arith; low4 = λ g. absurd (true≢false (sym g ∙ f)); from = simp f (omega arith); to = simp f (omega arith) }))
+    (λ s. simp (f, s) (record { low = omega arith; low4 = λ g. absurd (true≢false (sym g ∙ f)); from = simp f (omega arith); to = simp f (omega arith) }))))
+
+module _ (p : List ℕ) (by : Bytes p) (c : Accepted p) (at : ℕ) (new : List ℕ) (bn : Bytes new) (l : Placed p at (length new)) where
+  pub address-step : Kept p (addressLeft p at new) at new
+  address-step =
+      let k = c .facts in
+      let z = same-self p in
+      let ends = addresses-end k in
+      let w = put-wrote p at new (omega arith) in
+      let s = same-step z w (soft-header k at (length new) (omega arith) (omega arith) (λ f. (omega arith, inr (let e = l .low4 f in omega arith)))) in
+      let h = header-step k by s (bytes-wrote w by bn) at new w (omega arith) (λ f. inr (l .low4 f)) in
+      let word = h .word ∙ word-above w (fieldAt p) (omega arith) in
+      let apart : (i : ℕ) → at ≤ i → i < at + length new → Outside p i =
+      λ i g j. record { header = λ f. inr (let e = l .low4 f in omega arith); message = inl (omega arith) } in
+      by-cases (pseudo p)
+      (λ t.
+      let m = message-step k by (h .same) (h .bytes) (at - addressesAt p) at new
+      (rw (h .total) (message-address k z s w (at - addressesAt p) t (omega arith) (l .to))) word (h .kept)
+      (message-some k (sameF k z 0) t) (message-some k (sameF k (h .same) 0) t) in
+      simp t
+      (record {
+        same = m .same;
+        bytes = m .bytes;
+        header = m .header;
+        message = m .kept;
+        others = λ i o. m .others i (o .message) ∙ h .others i (o .header);
+        apart = apart;
+        fits = omega arith;
+      }))
+      (λ t.
+      simp t
+      (record {
+        same = h .same;
+        bytes = h .bytes;
+        header = h .kept;
+        message = message-carry k z (h .same)
+            (h .total ∙ message-out k z s w (omega arith) (λ u. absurd (true≢false (sym u ∙ t)))) word (message-self p);
+        others = λ i o. h .others i (o .header);
+        apart = apart;
+        fits = omega arith;
+      }))
+
+-- ---- the stretch
+pub some-weigh : (b : Bool) (xs : List ℕ) → allZero xs ≡ false → 0 < weigh b xs
+unfolding weigh
+some-weigh b [] e = absurd (true≢false e)
+some-weigh false (x ∷ xs) e =
+    by-cases (eqb x 0)
+    (λ t. omega (arith, some-weigh true xs (simp t at e)))
+    (λ t. let n : ¬ (x ≡ 0) = eqb-false x 0 t in omega arith)
+some-weigh true (x ∷ xs) e =
+    by-cases (eqb x 0)
+    (λ t. omega (arith, some-weigh false xs (simp t at e)))
+    (λ t. let n : ¬ (x ≡ 0) = eqb-false x 0 t in omega arith)
+
+module _ {p q : List ℕ} (k : Facts p) (a : Same p q) where
+  unblank : blank p q ≡ false → pseudo p ≡ false → 0 < messageTotal (putWord q (fieldAt p) 0)
+  unfolding addressTally restTally blank
+  unblank b t =
+      let s = sameF k a 0 in
+      let e : messageTotal (putWord q (fieldAt p) 0) ≡ 0 + 0 + tally (putWord q (fieldAt p) 0) false (startOf p) (lengthOf p) =
+      message-tally k s ∙ simp t in
+      omega (
+        arith,
+        s .long,
+        weigh-tally (putWord q (fieldAt p) 0) false (startOf p) (lengthOf p) (let l = s .long in omega arith),
+        some-weigh false (part (putWord q (fieldAt p) 0) (startOf p) (lengthOf p)) b,
+      )
+
+module _ (p : List ℕ) (by : Bytes p) (c : Accepted p) (place : ℕ) where
+  stretch-some : (new : List ℕ) → Bytes new → 0 < length new → clear (stretchRules p place new)
+      → Kept p (messageAfter p (bodyOf p + place - startOf p) (bodyOf p + place) new (put p (bodyOf p + place) new)) (bodyOf p + place) new
+  stretch-some new bn some r =
+      let k = c .facts in
+      let at = bodyOf p + place in
+      let z = same-self p in
+      let fits = ltb-false (endOf p - bodyOf p) (place + length new) (r .0) in
+      let w = put-wrote p at new (omega arith) in
+      let s = same-step z w (soft-body k at (length new) (omega arith)) in
+      let blanks : (pseudo p ≡ false) → (blank p p ≡ false) × (blank p (put p at new) ≡ false) =
+      λ t. or-false (blank p p) (blank p (put p at new))
+      (simp (eq-eqb (protocolOf p) 1 (k .plain t), ne-eqb (length new) 0 (λ e. omega arith)) at (r .1 .0)) in
+      let at0 : 0 < messageTotal (putWord p (fieldAt p) 0) = by-cases (pseudo p) (λ t. message-some k (sameF k z 0) t) (λ t. unblank k z (blanks t .0) t) in
+      let at1 : 0 < messageTotal (putWord (put p at new) (fieldAt p) 0) = by-cases (pseudo p) (λ t. message-some k (sameF k s 0) t) (λ t. unblank k s (blanks t .1) t) in
+      let h = header-carry k z s (header-out k z s w (omega arith)) (word-below w 10 (omega arith)) (header-self p) in
+      let m = message-step k by s (bytes-wrote w by bn) (at - startOf p) at new
+      (message-in k z s w (at - startOf p) (omega arith) (omega arith)) (word-below w (fieldAt p) (omega arith)) h at0 at1 in
+      record {
+        same = m .same;
+        bytes = m .bytes;
+        header = m .header;
+        message = m .kept;
+        others = λ i o. m .others i (o .message);
+        apart = λ i g j. record { header = λ f. inr (omega arith); message = inr (omega arith) };
+        fits = omega arith;
+      }
+
+  pub stretch-step : (new : List ℕ) → Bytes new → clear (stretchRules p place new) → Kept p (stretchLeft p (bodyOf p + place) new) (bodyOf p + place) new
+  unfolding put
+  stretch-step [] bn r =
+      let k = c .facts in
+      let fits = ltb-false (endOf p - bodyOf p) (place + 0) (r .0) in
+      record {
+        same = same-self p;
+        bytes = by;
+        header = header-self p;
+        message = message-self p;
+        others = λ i o. refl;
+        apart = λ i g j. absurd (omega arith);
+        fits = omega arith;
+      }
+  stretch-step (x ∷ new) bn r =
+      rw (ne-eqb (suc (length new)) 0 (λ e. omega arith)) (stretch-some (x ∷ new) bn (omega arith) r)

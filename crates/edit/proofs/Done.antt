@@ -1,0 +1,77 @@
+-- A block with a part replaced and its field updated keeps its verdict, and a fresh field stays fresh.
+use mathlib.Core.Path.{_≡_, refl, sym, ap, _∙_}
+use Prim.Native.Nat.{ℕ, _+_, _-_, _<_}
+use native.Mathlib.Omega.{arith}
+use mathlib.Core.List.{List}
+use mathlib.Core.Bool.{true, false, _&&_}
+use lib.ListN.{length}
+use lib.Dec.{eqb}
+use borrow.Author.Tests.{ne-eqb}
+use Rattle.verdicts.proofs.Tests.{by-cases}
+use Rattle.sums.specs.Total.{weigh}
+use Rattle.sums.specs.Update.{updated}
+use Rattle.wire.specs.Bytes.{wordAt, part, putWord, odd, Bytes}
+use Rattle.wire.specs.Inner.{udp, fieldAt, silentOf}
+use Rattle.wire.proofs.Writes.{word-wrote, word-small}
+use Rattle.wire.proofs.Facts.{Facts}
+use Rattle.wire.proofs.Same.{Same, same-self, four-same, udp-same, field-same}
+use Rattle.judge.specs.Sums.{headerTotal, messageTotal, headerSums, messageSums}
+use Rattle.mend.specs.Fresh.{sent, freshHeader}
+use Rattle.mend.proofs.Numbers.{pass-alike, sent-some, block-alike, block-fresh}
+use Rattle.mend.proofs.Blocks.{header-field, message-field, header-some}
+use Rattle.mend.proofs.Fresh.{FreshHeader, FreshMessage, HeaderKept, MessageKept, write10, writeF, same10, sameF, aside10, asideF, freshF}
+use Rattle.edit.specs.Update.{updatedAt}
+
+module _ {p q : List ℕ} (k : Facts p) (by : Bytes p) (a : Same p q) (at : ℕ) (new : List ℕ) where
+  pub header-done : headerTotal q + weigh (odd at) (part p at (length new)) ≡ headerTotal p + weigh (odd at) new
+      → wordAt q 10 ≡ wordAt p 10 → HeaderKept p (putWord q 10 (updatedAt p 10 at at new))
+  unfolding updatedAt headerSums freshHeader sent
+  header-done t e =
+      let v = updatedAt p 10 at at new in
+      let r = putWord q 10 v in
+      let sr = same10 k a v in
+      let f = header-field v k a sr (write10 k a v) in
+      let f' : headerTotal r + wordAt p 10 ≡ headerTotal q + v = rw e at f in
+      let w : wordAt r 10 ≡ v = word-wrote v (write10 k a v) in
+      let z = same-self p in
+      let x = block-alike (headerTotal p) (headerTotal q) (headerTotal r) _ _ (wordAt p 10) v false (word-small p 10 by) t f' refl in
+      record {
+        sums = rw (four-same sr, pass-alike (headerTotal r) (headerTotal p) (header-some k sr) (header-some k z) x);
+        fresh = λ g y. w ∙ block-fresh (headerTotal p) (headerTotal q) (headerTotal r) (headerTotal (putWord p 10 0)) (headerTotal (putWord r 10 0)) _ _ (wordAt p 10) v false
+            t f' refl (aside10 k z) (ap (λ n. headerTotal (putWord r 10 0) + n) (sym w) ∙ aside10 k sr) (header-some k (same10 k sr 0)) (g (sym (four-same sr) ∙ y));
+      }
+
+  pub message-done : (pos : ℕ) → messageTotal q + weigh (odd pos) (part p at (length new)) ≡ messageTotal p + weigh (odd pos) new
+      → wordAt q (fieldAt p) ≡ wordAt p (fieldAt p) → silentOf p ≡ false
+      → 0 < messageTotal (putWord p (fieldAt p) 0) → 0 < messageTotal (putWord q (fieldAt p) 0)
+      → MessageKept p (putWord q (fieldAt p) (sent (udp p) (updatedAt p (fieldAt p) pos at new)))
+  unfolding updatedAt messageSums silentOf
+  message-done pos t e s some0 some1 =
+      let v = sent (udp p) (updatedAt p (fieldAt p) pos at new) in
+      let r = putWord q (fieldAt p) v in
+      let r0 = messageTotal (putWord r (fieldAt p) 0) in
+      let sr = sameF k a v in
+      let f = message-field v k a sr (writeF k a v) in
+      let f' : messageTotal r + wordAt p (fieldAt p) ≡ messageTotal q + v = rw e at f in
+      let w : wordAt r (fieldAt p) ≡ v = word-wrote v (writeF k a v) in
+      let z = asideF k (same-self p) in
+      let c : r0 + v ≡ messageTotal r = ap (λ n. r0 + n) (sym w) ∙ asideF k sr in
+      let some2 : 0 < r0 = there r0 v (messageTotal r) (wordAt p (fieldAt p)) (messageTotal q) (messageTotal (putWord q (fieldAt p) 0)) c f' (ap (λ n. messageTotal (putWord q (fieldAt p) 0) + n) (sym e) ∙ asideF k a) some1 in
+      let x = block-alike (messageTotal p) (messageTotal q) (messageTotal r) _ _ (wordAt p (fieldAt p)) v (udp p) (word-small p (fieldAt p) by) t f' refl in
+      let y : (udp p && eqb v 0) ≡ false = by-cases (udp p)
+      (λ u. rw u (ne-eqb (sent true (updatedAt p (fieldAt p) pos at new)) 0 (sent-some (updatedAt p (fieldAt p) pos at new)))) (λ u. simp u) in
+      record {
+        silent = rw (udp-same sr, field-same sr, w) y ∙ sym s;
+        sums = λ g. pass-alike (messageTotal r) (messageTotal p) (more r0 v (messageTotal r) c some2) (more _ _ (messageTotal p) z some0) x;
+        fresh = λ g u.
+            ap (wordAt r) (field-same sr) ∙ w
+            ∙ block-fresh (messageTotal p) (messageTotal q) (messageTotal r) (messageTotal (putWord p (fieldAt p) 0)) r0 _ _ (wordAt p (fieldAt p)) v (udp p)
+            t f' refl z c some2 (g s ∙ freshF k (same-self p))
+            ∙ sym (freshF k sr);
+      }
+    where
+      more : (a b c : ℕ) → a + b ≡ c → 0 < a → 0 < c
+      more a b c h l = omega arith
+
+      there : (r0 v r hc q q0 : ℕ) → r0 + v ≡ r → r + hc ≡ q + v → q0 + hc ≡ q → 0 < q0 → 0 < r0
+      there r0 v r hc q q0 h1 h2 h3 h4 = omega arith

@@ -1,0 +1,175 @@
+-- One edit: what it keeps.
+use mathlib.Core.Path.{_≡_, refl, sym, _∙_}
+use mathlib.Core.Logic.{_⊎_, inl, ⊎-elim}
+use Prim.Native.Nat.{ℕ, zero, suc, _+_, _-_, _<_, _≤_}
+use native.Mathlib.Omega.{arith}
+use mathlib.Core.List.{List, _++_}
+use mathlib.Core.Bool.{true, false, true≢false}
+use lib.ListN.{length}
+use Rattle.verdicts.specs.Rules.{clear}
+use Rattle.verdicts.proofs.Tests.{by-cases}
+use Rattle.verdicts.proofs.Rules.{clear-both}
+use Rattle.sums.specs.Total.{weigh}
+use Rattle.sums.specs.Update.{updated}
+use Rattle.wire.specs.Bytes.{byteAt, wordAt, part, put, putWord, odd, Bytes}
+use Rattle.wire.specs.Outer.{four, startOf, outerRules, fragmentRule}
+use Rattle.wire.specs.Inner.{udp, fieldAt, silentOf, wholeRules, messageRules}
+use Rattle.wire.specs.Cover.{addressesAt}
+use Rattle.wire.proofs.Writes.{Wrote, put-wrote, bytes-wrote, bytes-word}
+use Rattle.wire.proofs.Facts.{Facts, facts}
+use Rattle.wire.proofs.Same.{Same, same-self, same-step, four-same, udp-same, field-same}
+use Rattle.judge.specs.Sums.{messageTotal, headerSums}
+use Rattle.judge.specs.Judge.{missingRule}
+use Rattle.mend.specs.Fresh.{sent}
+use Rattle.mend.proofs.Numbers.{sent-small}
+use Rattle.mend.proofs.Blocks.{header-in, header-out, message-out}
+use Rattle.mend.proofs.Places.{soft-header, word-below, word-above}
+use Rattle.mend.proofs.Fresh.{HeaderKept, MessageKept, write10, writeF, same10, sameF, header-carry, message-carry, message-self}
+use Rattle.mend.proofs.Accepted.{Accepted, quiet-four}
+use Rattle.edit.specs.Update.{updatedAt, headerAfter, messageAfter}
+use Rattle.edit.specs.Edits.{editRules, lifeAt, lowered}
+use Rattle.edit.proofs.Done.{header-done, message-done}
+use Rattle.edit.specs.Runs.{Outside}
+
+-- a packet that no rule of the edits' common order refuses
+pub accepted : (p : List ℕ) → clear (editRules p) → Accepted p
+unfolding editRules wholeRules
+accepted p c =
+    let w = clear-both (wholeRules p) (missingRule p) c in
+    let d = clear-both (outerRules p) (fragmentRule p ++ messageRules p) (w .0) in
+    record {
+      shape = d .0;
+      fragment = d .1 .0;
+      message = d .1 .1;
+      quiet = quiet-four p (d .0) (w .1 .0);
+      facts = facts p (d .0) (d .1 .1);
+    }
+
+-- what an edit leaves: new bytes at a place, and beside them only the fields
+pub record Kept (p q : List ℕ) (at : ℕ) (new : List ℕ) : Type 0 where
+  pub same : Same p q
+  pub bytes : Bytes q
+  pub header : HeaderKept p q
+  pub message : MessageKept p q
+  pub others : (i : ℕ) → Outside p i → byteAt q i ≡ byteAt (put p at new) i
+  pub apart : (i : ℕ) → at ≤ i → i < at + length new → Outside p i
+  pub fits : at + length new ≤ length p
+
+updated-bytes : (p : List ℕ) (f pos at : ℕ) (new : List ℕ) → updatedAt p f pos at new ≤ 65535
+unfolding updatedAt updated
+updated-bytes p f pos at new = omega arith
+
+-- ---- the header's field
+module _ {p q : List ℕ} (k : Facts p) (by : Bytes p) (a : Same p q) (bq : Bytes q) (at : ℕ) (new : List ℕ) (w : Wrote p q at new)
+    (low : at + length new ≤ startOf p) (off : four p ≡ true → (at + length new ≤ 10) ⊎ (12 ≤ at)) where
+  pub record HeaderStep (r : List ℕ) : Type 0 where
+    pub same : Same p r
+    pub bytes : Bytes r
+    pub kept : HeaderKept p r
+    pub total : messageTotal r ≡ messageTotal q
+    pub word : wordAt r (fieldAt p) ≡ wordAt q (fieldAt p)
+    pub others : (i : ℕ) → (four p ≡ true → (i < 10) ⊎ (11 < i)) → byteAt r i ≡ byteAt q i
+
+  header-step4 : four p ≡ true → HeaderStep (putWord q 10 (updatedAt p 10 at at new))
+  header-step4 f =
+      let v = updatedAt p 10 at at new in
+      let x = write10 k a v in
+      let s = same10 k a v in
+      record {
+        same = s;
+        bytes = bytes-wrote x bq (bytes-word v (updated-bytes p 10 at at new));
+        kept = header-done k by a at new (header-in k (same-self p) a w low)
+            (⊎-elim (λ l. word-above w 10 l) (λ l. word-below w 10 l) (off f));
+        total = message-out k a s x (omega arith) (λ t. simp f (omega arith));
+        word = word-above x (fieldAt p) (omega arith);
+        others = λ i o. ⊎-elim (λ l. x .below i l) (λ l. x .above i (omega arith)) (o f);
+      }
+
+  header-step6 : four p ≡ false → HeaderStep q
+  unfolding headerSums
+  header-step6 f =
+      record {
+        same = a;
+        bytes = bq;
+        kept = record { sums = rw (four-same a, f); fresh = λ g h. absurd (true≢false (sym h ∙ four-same a ∙ f)) };
+        total = refl;
+        word = refl;
+        others = λ i o. refl;
+      }
+
+  pub header-step : HeaderStep (headerAfter p at new q)
+  unfolding headerAfter
+  header-step = by-cases (four p) (λ f. simp f (header-step4 f)) (λ f. simp f (header-step6 f))
+
+-- ---- the message's field
+module _ {p q : List ℕ} (k : Facts p) (by : Bytes p) (a : Same p q) (bq : Bytes q) (pos at : ℕ) (new : List ℕ)
+    (total : messageTotal q + weigh (odd pos) (part p at (length new)) ≡ messageTotal p + weigh (odd pos) new)
+    (word : wordAt q (fieldAt p) ≡ wordAt p (fieldAt p)) (h : HeaderKept p q)
+    (some0 : 0 < messageTotal (putWord p (fieldAt p) 0)) (some1 : 0 < messageTotal (putWord q (fieldAt p) 0)) where
+  pub record MessageStep (r : List ℕ) : Type 0 where
+    pub same : Same p r
+    pub bytes : Bytes r
+    pub header : HeaderKept p r
+    pub kept : MessageKept p r
+    pub others : (i : ℕ) → (i < fieldAt p) ⊎ (fieldAt p + 1 < i) → byteAt r i ≡ byteAt q i
+
+  message-summed : silentOf p ≡ false → MessageStep (putWord q (fieldAt p) (sent (udp p) (updatedAt p (fieldAt p) pos at new)))
+  message-summed u =
+      let v = sent (udp p) (updatedAt p (fieldAt p) pos at new) in
+      let x = writeF k a v in
+      let s = sameF k a v in
+      record {
+        same = s;
+        bytes = bytes-wrote x bq (bytes-word v (sent-small (udp p) (updatedAt p (fieldAt p) pos at new) (updated-bytes p (fieldAt p) pos at new)));
+        header = header-carry k a s (header-out k a s x (omega arith)) (word-below x 10 (omega arith)) h;
+        kept = message-done k by a at new pos total word u some0 some1;
+        others = λ i o. ⊎-elim (λ l. x .below i l) (λ l. x .above i (omega arith)) o;
+      }
+
+  message-silent : silentOf p ≡ true → MessageStep q
+  unfolding silentOf
+  message-silent u =
+      let z : silentOf q ≡ silentOf p = rw (udp-same a, field-same a, word) in
+      record {
+        same = a;
+        bytes = bq;
+        header = h;
+        kept = record { silent = z; sums = λ g. absurd (true≢false (sym u ∙ g)); fresh = λ f g. absurd (true≢false (sym u ∙ sym z ∙ g)) };
+        others = λ i o. refl;
+      }
+
+  pub message-step : MessageStep (messageAfter p pos at new q)
+  unfolding messageAfter
+  message-step = by-cases (silentOf p) (λ u. simp u (message-silent u)) (λ u. simp u (message-summed u))
+
+-- ---- the lifetime
+life-places : (p : List ℕ) → (7 ≤ lifeAt p) × (lifeAt p ≤ 8) × (lifeAt p + 1 ≤ addressesAt p) × (four p ≡ true → lifeAt p ≡ 8)
+life-places p =
+    by-cases (four p)
+    (λ f. simp f (omega arith, omega arith, omega arith, λ g. refl))
+    (λ f. simp f (omega arith, omega arith, omega arith, λ g. absurd (true≢false (sym g))))
+
+module _ (p : List ℕ) (by : Bytes p) (c : Accepted p) where
+  pub lifetime-step : Kept p (headerAfter p (lifeAt p) (lowered p) (put p (lifeAt p) (lowered p))) (lifeAt p) (lowered p)
+  lifetime-step =
+      let k = c .facts in
+      let at = lifeAt p in
+      let l = life-places p in
+      let z = same-self p in
+      let w = put-wrote p at (lowered p) (omega arith) in
+      let s = same-step z w (soft-header k at 1 (l .0) (omega arith) (λ f. let e = l .3 f in (omega arith, inl (omega arith)))) in
+      let b = bytes-wrote w by (lowered-bytes) in
+      let h = header-step k by s b at (lowered p) w (omega arith) (λ f. inl (let e = l .3 f in omega arith)) in
+      record {
+        same = h .same;
+        bytes = h .bytes;
+        header = h .kept;
+        message = message-carry k z (h .same) (h .total ∙ message-out k z s w (omega arith) (λ t. l .2)) (h .word ∙ word-above w (fieldAt p) (omega arith)) (message-self p);
+        others = λ i o. h .others i (o .header);
+        apart = λ i g j. record { header = λ f. inl (omega arith); message = inl (omega arith) };
+        fits = omega arith;
+      }
+    where
+      lowered-bytes : Bytes (lowered p)
+      lowered-bytes zero = omega (arith, by (lifeAt p))
+      lowered-bytes (suc i) = omega arith

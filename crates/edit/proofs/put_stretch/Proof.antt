@@ -1,0 +1,58 @@
+-- The new bytes are written, and the field is that which the definition gives.
+use mathlib.Core.Path.{_≡_, _∙_, sym, ap}
+use Prim.Native.Nat.{ℕ, _+_, _-_, _≤_}
+use native.Mathlib.Omega.{arith}
+use mathlib.Core.List.{List}
+use denote.Ref.{now}
+use Rattle.wire.specs.Outer.{startOf}
+use Rattle.wire.specs.Inner.{fieldAt}
+use Rattle.wire.specs.declared.Message.{Message}
+use Rattle.wire.proofs.Facts.{Facts}
+use Rattle.wire.proofs.Held.{held-facts}
+use Rattle.edit.proofs.Made.{stretch-made}
+use borrow.Author.Needs.{needs}
+use Rattle.edit.proofs.put_stretch.Statement.{statement}
+use Rattle.edit.proofs.put_stretch.Tie as tie
+
+abbrev P : tie.Start → List ℕ
+P c = now (c .args .packet)
+
+record Known (c : tie.Start) : Type 0 where
+  facts : Facts (P c)
+  start : c .args .m .start ≡ startOf (P c)
+  field : c .args .m .field ≡ fieldAt (P c)
+
+known : (c : tie.Start) → Known c
+known c = let e = c .pre .0 .is in record { facts = held-facts (c .pre .0); start = rw e; field = rw e }
+
+put-bytes-requires : tie.Need-put-bytes-requires
+put-bytes-requires c κs = let k = known (c .before .before .before .before .before .before .before .before .before .before .before .before .before) in let a = c .before .before .before .before .before .before .before .before .before .before .before .before .before .pre .1 in omega arith
+
+put-message-requires : tie.Need-put-message-requires
+put-message-requires c κs = let k = known (c .before .before .before .before .before .before .before .before .before .before .before .before .before .before .before .before .before) in let e = c .before .before .before .put-bytes .kept .0 in omega (arith, e)
+
+returns : tie.Need-returns
+returns c = 
+    let g = c .before .before in
+    let y = g .before .before .before .before in
+    let a = y .before .before .before .before .before .before .before .before .before .before .before .before .before .before in
+    stretch-made (a .pre .0) (a .args .at) (now (a .args .bytes)) _ _ _ (y .before .before .before .before .before .before .before .before .fold-at .ensures) (y .before .before .before .before .before .before .before .fold-at2 .ensures) (y .before .before .before .before .renewed .ensures) _ (y .before .before .silent .ensures)
+    _ _ (y .put-bytes .ensures) (g .put-message .ensures)
+
+pub put-stretch-spec : {M : Type 1} → statement M
+put-stretch-spec =
+    tie.close
+    (tie.spec
+    (λ c. let k = known (c .before .before) in let a = c .before .before .pre .1 in omega arith)
+    (λ c. let k = known (c .before .before .before) in let a = c .before .before .before .pre .1 in omega arith)
+    (λ c. search needs)
+    (λ c. search needs)
+    (λ c. let k = known (c .before .before .before .before) in let a = c .before .before .before .before .pre .1 in omega arith)
+    (λ c κs. search needs)
+    (λ c κs. search needs)
+    (λ c κs. let k = known (c .before .before .before .before .before .before .before .before .before) in omega arith)
+    (λ c κs. let k = known (c .before .before .before .before .before .before .before .before .before .before .before) in omega arith)
+    put-bytes-requires
+    put-message-requires
+    (λ c. search needs)
+    returns)

@@ -1,0 +1,15 @@
+-- The field is written unless it is quiet.
+use mathlib.Core.Path.{_∙_, sym}
+use Rattle.edit.specs.Update.{messagePut}
+use borrow.Author.Needs.{needs}
+use Rattle.edit.proofs.update.put_message.Statement.{statement}
+use Rattle.edit.proofs.update.put_message.Tie as tie
+
+pub put-message-spec : {M : Type 1} → statement M
+put-message-spec =
+    tie.close
+    (tie.spec
+    (λ c. search needs)
+    (λ c κs. search needs)
+    (λ c. search needs)
+    (λ c. c .before .before .put-word .ensures ∙ sym (simp (c .before .before .before .before .if1 .left))))

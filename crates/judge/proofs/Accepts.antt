@@ -1,0 +1,86 @@
+-- What the judge asks of a packet that it does not refuse.
+use mathlib.Core.Path.{_≡_, refl, sym, ap, _∙_}
+use Prim.Native.Nat.{ℕ, _≤_}
+use native.Mathlib.Omega.{arith}
+use mathlib.Core.List.{List, [], _∷_, _++_}
+use mathlib.Core.Bool.{true, false, _||_}
+use borrow.Author.Tests.{eqb-true, not-false}
+use Rattle.verdicts.specs.Numbers.{numberOf}
+use Rattle.verdicts.specs.Rules.{Rule, _⇒_, verdictBy, clear}
+use Rattle.verdicts.specs.declared.Verdict.{Verdict}
+use Rattle.verdicts.specs.declared.Verdict.the-variants.{Good, Unsummed}
+use Rattle.verdicts.proofs.Tests.{by-cases}
+use Rattle.verdicts.proofs.Rules.{clear-first, clear-both, clear-join}
+use Rattle.wire.specs.Outer.{four, six, versionOf, headerOf, outerRules, outerOf, fragmentRule, fragmentOf}
+use Rattle.wire.specs.Inner.{silentOf, messageOf, messageRules, innerOf, wholeRules}
+use Rattle.wire.specs.declared.Frame.the-variants as frame
+use Rattle.wire.specs.declared.Part.the-variants as part
+use Rattle.judge.specs.Sums.{headerSums, messageSums}
+use Rattle.judge.specs.Judge.{headerSumRule, sumRules, judgeRules, judgeOf, messageVerdict}
+use Rattle.judge.proofs.Answers.{summed, unsummed, missing, bad, good}
+use Rattle.judge.proofs.Telling.{Ranks}
+
+-- good or unsummed comes only where no refusal before it holds
+past : (xs ys : List Rule) (v : Verdict) → numberOf v ≤ 1 → Ranks (λ w. 2 ≤ numberOf w) xs → verdictBy (xs ++ ys) ≡ v → clear xs × (verdictBy ys ≡ v)
+past [] ys v h r e = (tt, e)
+past ((true ⇒ w) ∷ xs) ys v h r e = absurd (omega (arith, ap numberOf e, r .0))
+past ((false ⇒ w) ∷ xs) ys v h r e = let q = past xs ys v h (r .1) e in ((refl, q .0), q .1)
+
+-- a packet's shape, in its parts
+pub record Shaped (p : List ℕ) : Type 0 where
+  pub outer : clear (outerRules p)
+  pub fragment : fragmentOf p ≡ false
+  pub inner : clear (messageRules p)
+  pub six : four p ≡ false → versionOf p ≡ 6
+
+pub shaped : (p : List ℕ) → clear (wholeRules p) → Shaped p
+unfolding wholeRules outerRules
+shaped p w =
+    let a = clear-both (outerRules p) (fragmentRule p ++ messageRules p) w in
+    record {
+      outer = a .0;
+      fragment = a .1 .0;
+      inner = a .1 .1;
+      six = λ f. eqb-true (versionOf p) 6 (simp f at (not-false (four p || six p) (a .0 .1 .0)));
+    }
+
+module _ (p : List ℕ) where
+  pub accepted : (v : Verdict) → numberOf v ≤ 1 → judgeOf p ≡ v → clear (wholeRules p) × (headerSums p ≡ true) × (messageVerdict p ≡ v)
+  unfolding judgeOf judgeRules wholeRules messageVerdict outerRules messageRules
+  accepted v h e =
+      let later = fragmentRule p ++ messageRules p in
+      let a = past (outerRules p ++ (headerSumRule p ++ later)) (sumRules p) v h (omega arith) e in
+      let c = clear-both (outerRules p) (headerSumRule p ++ later) (a .0) in
+      (clear-join (outerRules p) later (c .0) (c .1 .1), not-false (headerSums p) (c .1 .0), a .1)
+
+  pub accepting : clear (wholeRules p) → headerSums p ≡ true → messageVerdict p ≡ judgeOf p
+  unfolding outerOf innerOf
+  accepting w h =
+      let s = shaped p w in
+      summed p (headerOf p)
+      (sym (clear-first (outerRules p) frame.Refused (frame.Ip (headerOf p)) (s .outer)))
+      h
+      (s .fragment)
+      (messageOf p)
+      (sym (clear-first (messageRules p) part.Refused (part.Whole (messageOf p)) (s .inner)))
+
+  -- the message's verdict, by its tests
+  pub verdict-good : (four p ≡ false → versionOf p ≡ 6) → messageVerdict p ≡ Good → (silentOf p ≡ false) × (messageSums p ≡ true)
+  verdict-good v e =
+      by-cases (silentOf p)
+      (λ u. by-cases (four p)
+      (λ f. absurd (omega (arith, ap numberOf (unsummed p u f ∙ e))))
+      (λ f. absurd (omega (arith, ap numberOf (missing p u (v f) ∙ e)))))
+      (λ u. by-cases (messageSums p)
+      (λ m. (u, m))
+      (λ m. absurd (omega (arith, ap numberOf (bad p u m ∙ e)))))
+
+  pub verdict-unsummed : (four p ≡ false → versionOf p ≡ 6) → messageVerdict p ≡ Unsummed → (silentOf p ≡ true) × (four p ≡ true)
+  verdict-unsummed v e =
+      by-cases (silentOf p)
+      (λ u. by-cases (four p)
+      (λ f. (u, f))
+      (λ f. absurd (omega (arith, ap numberOf (missing p u (v f) ∙ e)))))
+      (λ u. by-cases (messageSums p)
+      (λ m. absurd (omega (arith, ap numberOf (good p u m ∙ e))))
+      (λ m. absurd (omega (arith, ap numberOf (bad p u m ∙ e)))))

@@ -1,0 +1,69 @@
+-- Good and unsummed in the RFCs' own words, with the RFCs' numbers for places: no total, fold or table of ours is used.
+use Prim.Native.Nat.{ℕ, _+_, _-_, _*_, _/_, _%_}
+use mathlib.Core.Path.{_≡_}
+use mathlib.Core.Logic.{_⊎_, _≢_}
+use mathlib.Core.List.{List, [], _∷_, _++_}
+use Rattle.verdicts.specs.Rules.{clear}
+use Rattle.wire.specs.Bytes.{byteAt, wordAt, part}
+use Rattle.wire.specs.Inner.{wholeRules}
+
+-- RFC 1071: one's complement addition; a carry out of the top is added in at the bottom
+infixl 60 _⊞_
+abbrev pub _⊞_ : ℕ → ℕ → ℕ
+a ⊞ b = (a + b) % 65536 + (a + b) / 65536
+
+-- the sum of a block's words; a block of odd length is padded with a zero byte at the end
+unfoldable pub summed : List ℕ → ℕ
+summed [] = 0
+summed (a ∷ []) = 256 * a + 0
+summed (a ∷ b ∷ rest) = (256 * a + b) ⊞ summed rest
+
+-- to check is to sum with the field in place: the result is all ones
+abbrev pub Right : List ℕ → Type 0
+Right block = summed block ≡ 0xffff
+
+-- RFC 791: the header's length stands in 4-byte words in the low half of byte 0, the total length in bytes 2 and 3
+abbrev pub ihl : List ℕ → ℕ
+ihl p = byteAt p 0 % 16 * 4
+
+abbrev pub data4 : List ℕ → List ℕ
+data4 p = part p (ihl p) (wordAt p 2 - ihl p)
+
+-- RFC 8200: the payload begins at 40, and its length stands in bytes 4 and 5
+abbrev pub data6 : List ℕ → List ℕ
+data6 p = part p 40 (wordAt p 4)
+
+-- RFC 768, RFC 9293: source, destination, zero, protocol, length
+abbrev pub pseudo4 : List ℕ → ℕ → ℕ → List ℕ
+pseudo4 p protocol size = part p 12 4 ++ (part p 16 4 ++ (0 ∷ protocol ∷ size / 256 ∷ size % 256 ∷ []))
+
+-- RFC 8200, 8.1: source, destination, upper-layer packet length in 32 bits, three zero bytes, next header
+abbrev pub pseudo6 : List ℕ → ℕ → ℕ → List ℕ
+pseudo6 p next size =
+    part p 8 16 ++ (part p 24 16 ++ (size / 16777216 ∷ size / 65536 % 256 ∷ size / 256 % 256 ∷ size % 256 ∷ 0 ∷ 0 ∷ 0 ∷ next ∷ []))
+
+-- RFC 791: the header, with its options
+abbrev pub Four : List ℕ → Type 0
+Four p = (byteAt p 0 / 16 ≡ 4) × Right (part p 0 (ihl p))
+
+-- RFC 792: ICMP's message alone; RFC 9293: TCP's segment; RFC 768: UDP's datagram, with its own length and a sum
+abbrev pub Right4 : List ℕ → Type 0
+Right4 p =
+    ((byteAt p 9 ≡ 1) × Right (data4 p))
+    ⊎ ((byteAt p 9 ≡ 6) × Right (pseudo4 p 6 (wordAt p 2 - ihl p) ++ data4 p))
+    ⊎ ((byteAt p 9 ≡ 17) × (wordAt p (ihl p + 6) ≢ 0) × Right (pseudo4 p 17 (wordAt p (ihl p + 4)) ++ data4 p))
+
+-- the same over IPv6; RFC 4443: ICMPv6's message
+abbrev pub Right6 : List ℕ → Type 0
+Right6 p =
+    ((byteAt p 6 ≡ 58) × Right (pseudo6 p 58 (wordAt p 4) ++ data6 p))
+    ⊎ ((byteAt p 6 ≡ 6) × Right (pseudo6 p 6 (wordAt p 4) ++ data6 p))
+    ⊎ ((byteAt p 6 ≡ 17) × (wordAt p 46 ≢ 0) × Right (pseudo6 p 17 (wordAt p 44) ++ data6 p))
+
+-- nothing refuses the packet's shape, and all its sums are right
+abbrev pub goodByRfc : List ℕ → Type 0
+goodByRfc p = clear (wholeRules p) × ((Four p × Right4 p) ⊎ ((byteAt p 0 / 16 ≡ 6) × Right6 p))
+
+-- RFC 768: a field that is all zero means that no sum was made; over IPv4 alone
+abbrev pub unsummedByRfc : List ℕ → Type 0
+unsummedByRfc p = clear (wholeRules p) × Four p × (byteAt p 9 ≡ 17) × (wordAt p (ihl p + 6) ≡ 0)

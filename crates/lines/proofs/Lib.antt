@@ -1,0 +1,3 @@
+-- Laws of the printed lines.
+pub mod Texts
+pub mod Decisions

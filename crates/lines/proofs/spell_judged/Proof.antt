@@ -1,0 +1,25 @@
+-- Two counts and a line's end.
+use Rattle.lines.specs.Lines.{judgedText}
+use Rattle.lines.proofs.Texts.{two-counts}
+use borrow.Author.Needs.{needs}
+use Rattle.lines.proofs.spell_judged.Statement.{statement}
+use Rattle.lines.proofs.spell_judged.Tie as tie
+
+returns : tie.Need-returns
+unfolding judgedText
+returns c = 
+    let k = c .before .before .before .before .before .before .before in
+    two-counts _ _ _ _ _ _ _ _ _ (k .before .before .before .before .before .put-count .ensures .0) (k .put-count2 .ensures .0) (c .before .before .put-text .ensures .0)
+
+pub spell-judged-spec : {M : Type 1} → statement M
+spell-judged-spec =
+    tie.close
+    (tie.spec
+    (λ c. search needs)
+    (λ c κs. search needs)
+    (λ c. search needs)
+    (λ c κs. search needs)
+    (λ c. search needs)
+    (λ c κs. search needs)
+    (λ c. search needs)
+    returns)
