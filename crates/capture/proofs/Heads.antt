@@ -48,6 +48,11 @@ five (p ∷ q ∷ r ∷ []) h = absurd (omega arith)
 five (p ∷ q ∷ r ∷ s ∷ []) h = absurd (omega arith)
 five (p ∷ q ∷ r ∷ s ∷ t ∷ xs) h = refl
 
+-- a capture whose edition isn't refused has its whole head
+pub edition-long : (c : List ℕ) → otherEdition c ≡ false → 5 ≤ length c
+unfolding otherEdition
+edition-long c e = ltb-false (length c) 5 (or-false (ltb (length c) 5) _ e .0)
+
 -- a head that isn't refused is the mark and version 1
 pub head-laid : (c : List ℕ) → Bytes c → otherMark c ≡ false → otherEdition c ≡ false → c ≡ 0x47 ∷ 0x4C ∷ 0x52 ∷ 0x00 ∷ 0x01 ∷ drop 5 c
 unfolding otherMark otherEdition
@@ -61,7 +66,7 @@ head-laid c b m e =
     let r = eqb-true (byteAt c 2) 0x52 (rest .1) in
     let s : byteAt c 3 ≡ 0 = omega (arith, b 3, b 4) in
     let t : byteAt c 4 ≡ 1 = omega (arith, b 3, b 4) in
-    five c (ltb-false (length c) 5 (long .0)) ∙ (cc)
+    five c (edition-long c e) ∙ (cc)
 
 -- ---- the head alone tells as much as the whole
 same-test : (c : List ℕ) (n : ℕ) → n ≤ 5 → ltb (length (take 5 c)) n ≡ ltb (length c) n

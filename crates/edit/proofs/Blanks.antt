@@ -7,9 +7,10 @@ use native.Mathlib.Omega.{arith}
 use lib.ListN.{length, take, drop, length-drop}
 use lib.Seq.{length-take-le, take-add, drop-drop, take-length, getD-take, getD-drop, ext-getD}
 use lib.Dec.{eqb}
+use borrow.Author.Tests.{eq-eqb}
 use Rattle.verdicts.proofs.Tests.{by-cases}
 use Rattle.wire.specs.Bytes.{byteAt, part, put, putWord}
-use Rattle.wire.specs.Outer.{startOf, endOf}
+use Rattle.wire.specs.Outer.{startOf, endOf, protocolOf}
 use Rattle.wire.specs.Inner.{fieldAt, bodyOf}
 use Rattle.wire.proofs.Facts.{Facts}
 use Rattle.wire.proofs.Writes.{Wrote, put-wrote, part-below}
@@ -57,6 +58,10 @@ zero-without p a f e h k l =
     ap allZero (part-cut q a f e h (omega arith)) ∙ zero-append (part q a (f - a)) (part q f (e - f))
     ∙ ap₂ _&&_ (ap allZero (part-below w a (f - a) (omega arith) (omega arith)))
     (ap allZero (part-cut q f (f + 2) e (omega arith) k ∙ ap₂ _++_ they (part-above w (f + 2) (e - (f + 2)) (omega arith) (omega arith))))
+
+-- where all else is zeros and the old bytes aren't, the new ones decide
+pub new-decides : (a b c d e : Bool) → a ≡ true → b ≡ true → c ≡ true → d ≡ false → e ≡ (a && (b && (c && (d || e))))
+new-decides a b c d e ea eb ec ed = rw (ea, eb, ec, ed)
 
 -- ---- the message around a stretch
 module _ (p : List ℕ) (k : Facts p) (at : ℕ) (new : List ℕ) (low : bodyOf p ≤ at) (high : at + length new ≤ endOf p) where
@@ -114,3 +119,7 @@ module _ (p : List ℕ) (k : Facts p) (at : ℕ) (new : List ℕ) (low : bodyOf 
       both true true c true false = by-cases c (λ t. simp t) (λ t. simp t)
       both true true c false true = by-cases c (λ t. simp t) (λ t. simp t)
       both true true c false false = by-cases c (λ t. simp t) (λ t. simp t)
+
+  pub blanks-made : protocolOf p ≡ 1 → (b : Bool) → b ≡ (first-part && (middle-part && (last-part && (old-part || allZero new))))
+      → b ≡ (eqb (protocolOf p) 1 && (blank p p || blank p (put p at new)))
+  blanks-made e b h = h ∙ sym (rw (eq-eqb (protocolOf p) 1 e) blank-either)

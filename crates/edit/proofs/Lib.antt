@@ -2,6 +2,7 @@
 pub mod Common
 pub mod Made
 pub mod Sides
+pub mod Stretches
 pub mod Blanks
 pub mod Done
 pub mod Steps

@@ -94,5 +94,8 @@ stretchRules p place new =
 abbrev pub stretchLeft : List ℕ → ℕ → List ℕ → List ℕ
 stretchLeft p a new = if eqb (length new) 0 then p else messageAfter p (a - startOf p) a new (put p a new)
 
+abbrev pub stretchIn : List ℕ → ℕ → List ℕ → Verdict × List ℕ
+stretchIn p place new = first (stretchRules p place new) (λ v. (v, p)) (Good, stretchLeft p (bodyOf p + place) new)
+
 unfoldable pub stretchOf : List ℕ → ℕ → List ℕ → Verdict × List ℕ
 stretchOf p place new = first (editRules p ++ stretchRules p place new) (λ v. (v, p)) (Good, stretchLeft p (bodyOf p + place) new)

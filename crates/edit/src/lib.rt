@@ -141,7 +141,14 @@ fn lower6(packet: &mut [u8]) -> Verdict
 }
 
 // Sets the address on a side, where the source stands at `from` and an address has `size` bytes.
-fn set_side(packet: &mut [u8], m: Message, side: u32, address: &[u8], from: usize, size: usize) -> Verdict
+fn set_side(
+    packet: &mut [u8],
+    m: Message,
+    side: u32,
+    address: &[u8],
+    from: usize,
+    size: usize,
+) -> Verdict
     requires { ⌜ Holds (now packet) m ⌝ }
     requires { ⌜ (from ≡ addressesAt (now packet)) × (size ≡ addressSize (now packet)) ⌝ }
     ensures { λ r. ⌜ (r, now (packet .exit)) ≡ addressIn (now (packet .entry)) side (now (address .entry)) ⌝ }

@@ -19,8 +19,11 @@ use Rattle.lines.specs.declared.Line.the-variants.{Nothing, Judged, Tota
 use Rattle.lines.specs.declared.Decided.{Decided}
 use Rattle.lines.specs.declared.Fed.{Fed}
 
+abbrev pub zeros : Tally
+zeros = record { records = 0; good = 0; unsummed = 0; refused = 0 }
+
 abbrev pub startOf : State
-startOf = record { phase = phase.Head; tally = record { records = 0; good = 0; unsummed = 0; refused = 0 } }
+startOf = record { phase = phase.Head; tally = zeros }
 
 -- how many bytes are wanted next: the head, a length, a packet, or nothing more
 abbrev pub wantIn : Phase → ℕ

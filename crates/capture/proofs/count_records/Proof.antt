@@ -20,12 +20,12 @@ passed : (c : tie.After-known-told Inv-loop μ-loop)
 passed c = is-record (past-here _ _ _ (sym (c .before .found .given .1) ∙ c .before .before .before .record-at .ensures))
 
 returns : tie.Need-returns Inv-loop μ-loop
-returns c = 
+returns c =
     let b = c .before .before in
     counting-end (is-last (past-here _ _ _ (sym (c .enum-told .given .1) ∙ b .record-at .ensures))) (b .before .loop .inv)
 
 returns-2 : tie.Need-returns-2 Inv-loop μ-loop
-returns-2 c = 
+returns-2 c =
     let b = c .before .before in
     counting-damage (is-damage (past-here _ _ _ (sym (c .enum-told2 .given .1) ∙ b .record-at .ensures))) (b .before .loop .inv)
 

@@ -20,28 +20,28 @@ whole : (c : tie.After-counted) → Whole (c .counted .given .0 .0) ≡ countedO
 whole c = sym (c .counted .given .1) ∙ c .before .before .count-records .ensures
 
 returns-2 : tie.Need-returns-2
-returns-2 c = 
+returns-2 c =
     let b = c .before .before in
     rw (c .refused2 .ensures) (answers.edition _ _ (marked (b .before)) (sym (b .other-edition .ensures) ∙ c .before .if2 .taken))
 
 returns-3 : tie.Need-returns-3
-returns-3 c = 
+returns-3 c =
     let b = c .before .before .before in
     rw (c .refused3 .ensures) (answers.damage _ _ (marked (b .before .before .before)) (edition (b .before)) (sym (c .before .enum-told .given .1) ∙ b .count-records .ensures))
 
 returns-4 : tie.Need-returns-4
-returns-4 c = 
+returns-4 c =
     let k = c .before .before .before in
     let e = k .before .before .before in
     rw (c .refused4 .ensures) (answers.room _ _ (marked (e .before .before)) (edition e) _ (whole k) (c .before .if3 .taken))
 
 judge-each-requires : tie.Need-judge-each-requires
-judge-each-requires c κs = 
+judge-each-requires c κs =
     let a = c .before .before .before .before .before .before .before .before .before .before .before .before .args in
     answers.fits (now (a .capture)) (now (a .verdicts)) _ (whole (c .before .before .before)) (c .before .if3 .left)
 
 returns-5 : tie.Need-returns-5
-returns-5 c = 
+returns-5 c =
     let k = c .before .before .before .before .before .before in
     let e = k .before .before .before in
     rw (c .before .before .judge-each .ensures) (answers.good _ _ (marked (e .before .before)) (edition e) _ (whole k) (c .before .before .before .before .if3 .left))

@@ -24,7 +24,7 @@ passed : (c : tie.After-known-told Inv-loop μ-loop)
 passed c = is-record (past-here _ _ _ (sym (c .before .found .given .1) ∙ c .before .before .before .record-at .ensures))
 
 returns : tie.Need-returns Inv-loop μ-loop
-returns c = 
+returns c =
     let b = c .before in
     judging-end (none-left (past-here _ _ _ (b .record-at .ensures)) (λ s e q. ⊎-elim (λ k. omega (arith, ap (tagOf the-type) q)) (λ k. omega (arith, ap (tagOf the-type) q)) (c .match .keys2))) (b .before .loop .inv)
 
@@ -32,7 +32,7 @@ add-i : tie.Need-add-i Inv-loop μ-loop
 add-i c = let k = c .before .before .before in let h = judging-place (passed k) (k .before .before .before .before .loop .inv) in omega arith
 
 loop-again : tie.Need-loop-again Inv-loop μ-loop
-loop-again c = 
+loop-again c =
     let k = c .before .before .before in
     judging-record (passed k) (c .number .ensures ∙ ap numberOf (c .before .judge .ensures)) (k .before .before .before .before .loop .inv)
 

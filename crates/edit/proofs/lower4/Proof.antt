@@ -16,7 +16,7 @@ byte : (c : tie.After-slice-known2) → byteAt (now (c .before .before .args .pa
 byte c = omega (arith, c .slice-known2 .given 8)
 
 returns-2 : tie.Need-returns-2
-returns-2 c = 
+returns-2 c =
     let w = c .before .before in
     let r = w .before .before in
     let s = r .before .before .before in

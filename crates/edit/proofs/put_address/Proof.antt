@@ -47,7 +47,7 @@ put-message-requires : tie.Need-put-message-requires
 put-message-requires c κs = let k = known (c .before .before .before .before .before .before .before .before .before .before .before .before .before .before .before .before .before .before .before .before .before .before .before) in let e = c .before .before .before .before .put-header .kept .0 in let g = c .before .before .before .before .before .before .before .before .put-bytes .kept .0 in omega (arith, e, g)
 
 returns : tie.Need-returns
-returns c = 
+returns c =
     let g = c .before .before in
     let h = g .before .before .before .before .before in
     let y = h .before .before .before .before in
@@ -56,7 +56,7 @@ returns c =
     _ _ (y .put-bytes .ensures) (h .put-header .ensures) _ (g .put-message .ensures) (g .before .before .if1 .taken)
 
 returns-2 : tie.Need-returns-2
-returns-2 c = 
+returns-2 c =
     let h = c .before .before .before in
     let y = h .before .before .before .before in
     let a = y .before .before .before .before .before .before .before .before .before .before .before .before .before .before .before in

@@ -32,7 +32,7 @@ put-message-requires : tie.Need-put-message-requires
 put-message-requires c κs = let k = known (c .before .before .before .before .before .before .before .before .before .before .before .before .before .before .before .before .before) in let e = c .before .before .before .put-bytes .kept .0 in omega (arith, e)
 
 returns : tie.Need-returns
-returns c = 
+returns c =
     let g = c .before .before in
     let y = g .before .before .before .before in
     let a = y .before .before .before .before .before .before .before .before .before .before .before .before .before .before in

@@ -12,7 +12,7 @@ right : (c : tie.Else1) → otherMark (now (c .before .before .before .args .byt
 right c = sym (c .before .other-mark .ensures) ∙ c .if1 .left
 
 returns-2 : tie.Need-returns-2
-returns-2 c = 
+returns-2 c =
     let e = c .before .before in
     c .stop2 .ensures ∙ edition _ _ (right (e .before)) (sym (e .other-edition .ensures) ∙ c .before .if2 .taken)
 

@@ -6,7 +6,7 @@ use Rattle.lines.proofs.counted.Statement.{statement}
 use Rattle.lines.proofs.counted.Tie as tie
 
 returns-3 : tie.Need-returns-3
-returns-3 c = 
+returns-3 c =
     let v = c .before .before .before .args .verdict in
     let r = c .before .match .rest in
     let z = r .0 .1 in

@@ -7,7 +7,7 @@ use Rattle.lines.proofs.feed.Tie as tie
 
 returns : tie.Need-returns
 unfolding fedOf
-returns c = 
+returns c =
     let p = from-first _ _ _ _ (c .spell .ensures) in
     rw (p .0, p .1, c .before .before .before .decide .ensures)
 

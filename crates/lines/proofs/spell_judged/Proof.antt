@@ -7,7 +7,7 @@ use Rattle.lines.proofs.spell_judged.Tie as tie
 
 returns : tie.Need-returns
 unfolding judgedText
-returns c = 
+returns c =
     let k = c .before .before .before .before .before .before .before in
     two-counts _ _ _ _ _ _ _ _ _ (k .before .before .before .before .before .put-count .ensures .0) (k .put-count2 .ensures .0) (c .before .before .put-text .ensures .0)
 

@@ -7,7 +7,7 @@ use Rattle.lines.proofs.spell_totals.Tie as tie
 
 returns : tie.Need-returns
 unfolding totalsText
-returns c = 
+returns c =
     let k = c .before .before .before .before .before .before .before in
     let l = k .before .before .before .before .before in
     let m = l .before .before .before .before .before in

@@ -18,13 +18,13 @@ abbrev μ-loop : tie.MeasureT-loop
 μ-loop bytes i₀ i = length bytes - i
 
 returns : tie.Need-returns Inv-loop μ-loop
-returns c = 
+returns c =
     let l = c .before .before .before in
     let s = now (l .before .args .bytes) in
     sym (sym (l .loop .inv .1) ∙ rw (drop-cons s (l .loop .i) 0 (omega arith)) (simp (ne-eqb _ 0 (c .if1 .taken))))
 
 loop-again : tie.Need-loop-again Inv-loop μ-loop
-loop-again c = 
+loop-again c =
     let l = c .before .before .before in
     let s = now (l .before .args .bytes) in
     let e : allZero (drop (l .loop .i) s) ≡ allZero (drop (l .loop .i + 1) s) =
@@ -32,7 +32,7 @@ loop-again c =
     (omega arith, sym e ∙ l .loop .inv .1)
 
 returns-2 : tie.Need-returns-2 Inv-loop μ-loop
-returns-2 c = 
+returns-2 c =
     let l = c .before in
     let s = now (l .before .args .bytes) in
     let e : length s ≤ l .loop .i = omega arith in

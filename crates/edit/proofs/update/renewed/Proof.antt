@@ -8,7 +8,7 @@ use Rattle.edit.proofs.update.renewed.Statement.{statement}
 use Rattle.edit.proofs.update.renewed.Tie as tie
 
 returns : tie.Need-returns
-returns c = 
+returns c =
     let a = c .before .before .before .before .args in
     c .sent .ensures ∙ ap (sent (a .udp)) (c .before .update .ensures ∙ ap (λ (f : ℕ). updated f (a .old .0) (a .new .0)) (c .before .before .word .ensures .0))
 

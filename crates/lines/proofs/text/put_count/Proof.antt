@@ -12,12 +12,13 @@ few : (c : tie.After-digits2) → c .before .before .decimal .result ≤ 20
 few c = let d = c .before .before in few-digits _ _ (omega arith) (d .decimal .ensures .1 .0)
 
 returns : tie.Need-returns
-returns c = 
+returns c =
     let d = c .before .before .before .before .before in
-    let f = few (c .before .before .before) in
-    (c .before .before .put-text2 .ensures .0
-    ∙ ap₂ (λ q t. q then t) (d .before .before .before .before .put-text .ensures .0) (d .decimal .ensures .1 .1 ∙ decimal-is _ _ (d .decimal .ensures .1 .0)),
-    omega arith)
+    let f = few (c .before .before .before) in (
+      c .before .before .put-text2 .ensures .0
+          ∙ ap₂ (λ q t. q then t) (d .before .before .before .before .put-text .ensures .0) (d .decimal .ensures .1 .1 ∙ decimal-is _ _ (d .decimal .ensures .1 .0)),
+      omega arith,
+    )
 
 pub put-count-spec : {M : Type 1} → statement M
 put-count-spec =
