@@ -2,3 +2,4 @@
 pub mod Texts
 pub mod Decisions
 pub mod Runs
+pub mod Outputs

@@ -19,6 +19,7 @@ use wire::word;
 ghost use mathlib.Core.Path.{_≡_};
 ghost use Prim.Native.Nat.{_≤_};
 ghost use lib.ListN.{length};
+ghost use Rattle.io.specs.Counts.{Counts};
 ghost use Rattle.lines.specs.Text.{_then_};
 ghost use Rattle.lines.specs.Lines.{textOf, judgedText, totalsText, stoppedText};
 ghost use Rattle.lines.specs.Feed.{startOf, wantOf, more as Feed·more, tallied, stopping, judging, afterHead, afterLength, afterPacket, decidedOf, fedOf};
@@ -94,6 +95,7 @@ pub fn want(s: State) -> usize
 // behind it stay.
 pub fn feed(s: State, bytes: &[u8], out: &mut [u8; 128]) -> Fed
     ensures { λ r. ⌜ (r, now (out .exit)) ≡ fedOf s (now (bytes .entry)) (now (out .entry)) ⌝ }
+    ensures { λ r. ⌜ Counts (r .written) (now (out .exit)) ⌝ }
 {
     let decided = decide(s, bytes);
     let line = decided.line;
@@ -249,6 +251,7 @@ fn more(n: u64) -> u64
 fn spell(line: Line, out: &mut [u8]) -> usize
     requires { ⌜ 128 ≤ length (now out) ⌝ }
     ensures { λ r. ⌜ (r, now (out .exit)) ≡ (0, now (out .entry)) then textOf line ⌝ }
+    ensures { λ r. ⌜ r ≤ 128 ⌝ }
 {
     match line {
         Line::Nothing => 0,
@@ -261,6 +264,7 @@ fn spell(line: Line, out: &mut [u8]) -> usize
 fn spell_judged(number: u64, verdict: u8, out: &mut [u8]) -> usize
     requires { ⌜ 128 ≤ length (now out) ⌝ }
     ensures { λ r. ⌜ (r, now (out .exit)) ≡ (0, now (out .entry)) then judgedText number verdict ⌝ }
+    ensures { λ r. ⌜ r ≤ 128 ⌝ }
 {
     let at = put_count(out, 0, b"record ", number);
     let at = put_count(out, at, b" verdict ", verdict as u64);
@@ -270,6 +274,7 @@ fn spell_judged(number: u64, verdict: u8, out: &mut [u8]) -> usize
 fn spell_totals(t: Tally, out: &mut [u8]) -> usize
     requires { ⌜ 128 ≤ length (now out) ⌝ }
     ensures { λ r. ⌜ (r, now (out .exit)) ≡ (0, now (out .entry)) then totalsText t ⌝ }
+    ensures { λ r. ⌜ r ≤ 128 ⌝ }
 {
     let at = put_count(out, 0, b"records ", t.records);
     let at = put_count(out, at, b" good ", t.good);
@@ -281,6 +286,7 @@ fn spell_totals(t: Tally, out: &mut [u8]) -> usize
 fn spell_stopped(verdict: u8, after: u64, out: &mut [u8]) -> usize
     requires { ⌜ 128 ≤ length (now out) ⌝ }
     ensures { λ r. ⌜ (r, now (out .exit)) ≡ (0, now (out .entry)) then stoppedText verdict after ⌝ }
+    ensures { λ r. ⌜ r ≤ 128 ⌝ }
 {
     let at = put_count(out, 0, b"stopped ", verdict as u64);
     let at = put_count(out, at, b" after ", after);

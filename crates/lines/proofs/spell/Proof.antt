@@ -8,19 +8,19 @@ use Rattle.lines.proofs.spell.Tie as tie
 
 returns : tie.Need-returns
 unfolding textOf _then_ put
-returns c = rw (c .enum-told .given .1)
+returns c = (rw (c .enum-told .given .1), search needs)
 
 returns-2 : tie.Need-returns-2
 unfolding textOf
-returns-2 c = rw (c .before .before .before .before .before .line .given .1) (c .before .before .spell-judged .ensures)
+returns-2 c = (rw (c .before .before .before .before .before .line .given .1) (c .before .before .spell-judged .ensures .0), c .before .before .spell-judged .ensures .1)
 
 returns-3 : tie.Need-returns-3
 unfolding textOf
-returns-3 c = rw (c .before .before .before .before .before .line2 .given .1) (c .before .before .spell-totals .ensures)
+returns-3 c = (rw (c .before .before .before .before .before .line2 .given .1) (c .before .before .spell-totals .ensures .0), c .before .before .spell-totals .ensures .1)
 
 returns-4 : tie.Need-returns-4
 unfolding textOf
-returns-4 c = rw (c .before .before .before .before .before .line3 .given .1) (c .before .before .spell-stopped .ensures)
+returns-4 c = (rw (c .before .before .before .before .before .line3 .given .1) (c .before .before .spell-stopped .ensures .0), c .before .before .spell-stopped .ensures .1)
 
 pub spell-spec : {M : Type 1} → statement M
 spell-spec =

@@ -1,4 +1,5 @@
 -- Two counts and a line's end.
+use native.Mathlib.Omega.{arith}
 use Rattle.lines.specs.Lines.{judgedText}
 use Rattle.lines.proofs.Texts.{two-counts}
 use borrow.Author.Needs.{needs}
@@ -9,7 +10,7 @@ returns : tie.Need-returns
 unfolding judgedText
 returns c =
     let k = c .before .before .before .before .before .before .before in
-    two-counts _ _ _ _ _ _ _ _ _ (k .before .before .before .before .before .put-count .ensures .0) (k .put-count2 .ensures .0) (c .before .before .put-text .ensures .0)
+    (two-counts _ _ _ _ _ _ _ _ _ (k .before .before .before .before .before .put-count .ensures .0) (k .put-count2 .ensures .0) (c .before .before .put-text .ensures .0), omega arith)
 
 pub spell-judged-spec : {M : Type 1} → statement M
 spell-judged-spec =

@@ -1,0 +1,21 @@
+-- The verdict's number, and the packet as the call leaves it.
+use mathlib.Core.Path.{_∙_, ap}
+use Prim.Native.Nat.{ℕ}
+use mathlib.Core.List.{List}
+use Rattle.verdicts.specs.declared.Verdict.{Verdict}
+use Rattle.hifrostum.specs.Answers.{numbered}
+use borrow.Author.Needs.{needs}
+use Rattle.hifrostum.proofs.hifrostum_set_address.Statement.{statement}
+use Rattle.hifrostum.proofs.hifrostum_set_address.Tie as tie
+
+returns : tie.Need-returns
+returns c = ap (λ (n : ℕ). (n, c .before .before .before .set-address .last .0)) (c .number .ensures) ∙ ap numbered (c .before .before .before .set-address .ensures)
+
+pub hifrostum-set-address-spec : {M : Type 1} → statement M
+hifrostum-set-address-spec =
+    tie.close
+    (tie.spec
+    (λ c κs. search needs)
+    (λ c κs. search needs)
+    (λ c. search needs)
+    returns)

@@ -1,0 +1,21 @@
+-- The verdict's number, and the packet as the call leaves it.
+use mathlib.Core.Path.{_∙_, ap}
+use Prim.Native.Nat.{ℕ}
+use mathlib.Core.List.{List}
+use Rattle.verdicts.specs.declared.Verdict.{Verdict}
+use Rattle.hifrostum.specs.Answers.{numbered}
+use borrow.Author.Needs.{needs}
+use Rattle.hifrostum.proofs.hifrostum_set_stretch.Statement.{statement}
+use Rattle.hifrostum.proofs.hifrostum_set_stretch.Tie as tie
+
+returns : tie.Need-returns
+returns c = ap (λ (n : ℕ). (n, c .before .before .before .set-stretch .last .0)) (c .number .ensures) ∙ ap numbered (c .before .before .before .set-stretch .ensures)
+
+pub hifrostum-set-stretch-spec : {M : Type 1} → statement M
+hifrostum-set-stretch-spec =
+    tie.close
+    (tie.spec
+    (λ c κs. search needs)
+    (λ c κs. search needs)
+    (λ c. search needs)
+    returns)

@@ -1,0 +1,2 @@
+-- What the C surface answers.
+pub mod Answers

@@ -1,0 +1,117 @@
+// What a host program in C calls: include/hifrostum.h has the same functions in C's words.
+//
+// A slice is a pointer and a length. Any bytes may be lent, and every call ends and answers by the numbers of the
+// rules paper. A refused call changes no lent byte, and sets to 0 what it hands back through count, fold and odd.
+ghost use mathlib.Core.Path.{_≡_};
+ghost use Rattle.verdicts.specs.Numbers.{numberOf};
+ghost use Rattle.sums.specs.Total.{total};
+ghost use Rattle.sums.specs.Fold.{fold as Fold·fold, fieldOf};
+ghost use Rattle.sums.specs.Chain.{chainOf};
+ghost use Rattle.sums.specs.Update.{updated};
+ghost use Rattle.judge.specs.Judge.{judgeOf};
+ghost use Rattle.mend.specs.Mend.{mendOf};
+ghost use Rattle.edit.specs.Edits.{lifetimeOf, addressOf, stretchOf};
+ghost use Rattle.capture.specs.Judged.{judgedOf};
+ghost use Rattle.hifrostum.specs.Answers.{numbered, counted, summed};
+ghost use Rattle.hifrostum.specs.Answers.{bit as Answers·bit};
+
+// The verdict on a packet.
+#[no_mangle]
+pub extern "C" fn hifrostum_judge(packet: &[u8]) -> u8
+    ensures { λ r. ⌜ r ≡ numberOf (judgeOf (now (packet .entry))) ⌝ }
+{
+    verdicts::number(judge::judge(packet))
+}
+
+// Sets a packet's sum fields fresh.
+#[no_mangle]
+pub extern "C" fn hifrostum_mend(packet: &mut [u8]) -> u8
+    ensures { λ r. ⌜ (r, now (packet .exit)) ≡ numbered (mendOf (now (packet .entry))) ⌝ }
+{
+    verdicts::number(mend::mend(packet))
+}
+
+// Lowers a packet's lifetime by one.
+#[no_mangle]
+pub extern "C" fn hifrostum_lower_lifetime(packet: &mut [u8]) -> u8
+    ensures { λ r. ⌜ (r, now (packet .exit)) ≡ numbered (lifetimeOf (now (packet .entry))) ⌝ }
+{
+    verdicts::number(edit::lower_lifetime(packet))
+}
+
+// Sets the source (side 0) or the destination (side 1).
+#[no_mangle]
+pub extern "C" fn hifrostum_set_address(packet: &mut [u8], side: u32, address: &[u8]) -> u8
+    ensures { λ r. ⌜ (r, now (packet .exit)) ≡ numbered (addressOf (now (packet .entry)) side (now (address .entry))) ⌝ }
+{
+    verdicts::number(edit::set_address(packet, side, address))
+}
+
+// Sets bytes of the body from a place on.
+#[no_mangle]
+pub extern "C" fn hifrostum_set_stretch(packet: &mut [u8], place: usize, bytes: &[u8]) -> u8
+    ensures { λ r. ⌜ (r, now (packet .exit)) ≡ numbered (stretchOf (now (packet .entry)) place (now (bytes .entry))) ⌝ }
+{
+    verdicts::number(edit::set_stretch(packet, place, bytes))
+}
+
+// One verdict number for each record of a capture.
+#[no_mangle]
+pub extern "C" fn hifrostum_judge_capture(
+    capture: &[u8],
+    verdicts: &mut [u8],
+    count: &mut usize,
+) -> u8
+    ensures { λ r. ⌜ (r, (now (count .exit), now (verdicts .exit))) ≡ counted (judgedOf (now (capture .entry)) (now (verdicts .entry))) ⌝ }
+{
+    let judged = capture::judge_capture(capture, verdicts);
+    let v = judged.verdict;
+    *count = judged.count;
+    verdicts::number(v)
+}
+
+// The partial sum of a chain of pieces of a buffer.
+#[no_mangle]
+pub extern "C" fn hifrostum_sum_chain(
+    buffer: &[u8],
+    pieces: &[u32],
+    fold: &mut u16,
+    odd: &mut u8,
+) -> u8
+    ensures { λ r. ⌜ (r, (now (fold .exit), now (odd .exit))) ≡ summed (chainOf (now (buffer .entry)) (now (pieces .entry))) ⌝ }
+{
+    let chained = sums::chain(buffer, pieces);
+    let v = chained.verdict;
+    *fold = chained.sum.fold.0;
+    *odd = bit(chained.sum.odd);
+    verdicts::number(v)
+}
+
+// The field of a block.
+#[no_mangle]
+pub extern "C" fn hifrostum_field(bytes: &[u8]) -> u16
+    ensures { λ r. ⌜ r ≡ fieldOf (Fold·fold (total (now (bytes .entry)))) ⌝ }
+{
+    let s = sums::sum(bytes);
+    let f = sums::field_of(s.fold);
+    f.0
+}
+
+// A field after the old bytes' fold gave way to the new bytes'.
+#[no_mangle]
+pub extern "C" fn hifrostum_update(field: u16, old_fold: u16, new_fold: u16) -> u16
+    ensures { λ r. ⌜ r ≡ updated field «old_fold» «new_fold» ⌝ }
+{
+    let f = sums::update(
+        sums::Field(field),
+        sums::Fold(old_fold),
+        sums::Fold(new_fold),
+    );
+    f.0
+}
+
+fn bit(odd: bool) -> u8
+    ensures { λ r. ⌜ r ≡ Answers·bit odd ⌝ }
+{
+    if odd { 1 } else { 0 }
+}
