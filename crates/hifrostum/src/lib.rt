@@ -93,8 +93,8 @@ pub extern "C" fn hifrostum_field(bytes: &[u8]) -> u16
     ensures { λ r. ⌜ r ≡ fieldOf (Fold·fold (total (now (bytes .entry)))) ⌝ }
 {
     let s = sums::sum(bytes);
-    let f = sums::field_of(s.fold);
-    f.0
+    let field = sums::field_of(s.fold);
+    field.0
 }
 
 // A field after the old bytes' fold gave way to the new bytes'.
@@ -102,12 +102,10 @@ pub extern "C" fn hifrostum_field(bytes: &[u8]) -> u16
 pub extern "C" fn hifrostum_update(field: u16, old_fold: u16, new_fold: u16) -> u16
     ensures { λ r. ⌜ r ≡ updated field «old_fold» «new_fold» ⌝ }
 {
-    let f = sums::update(
-        sums::Field(field),
-        sums::Fold(old_fold),
-        sums::Fold(new_fold),
-    );
-    f.0
+    let old = sums::Fold(old_fold);
+    let new = sums::Fold(new_fold);
+    let after = sums::update(sums::Field(field), old, new);
+    after.0
 }
 
 fn bit(odd: bool) -> u8
