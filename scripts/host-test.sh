@@ -19,6 +19,9 @@ mkdir -p $out
 {
     $x86 cc $flags tests/host/host.c "$archive" -o $out/host
     $x86 cc $flags examples/hut/hut.c "$archive" -o $out/hut
+    # the README's example compiles as it stands there
+    sed -n '/^```c$/,/^```$/{/^```/!p}' README.md >$out/readme.c
+    $x86 cc $flags $out/readme.c "$archive" -o $out/readme
 }
 if $x86 has c++; then
     $x86 c++ -O2 -Wall -Wextra -Wpedantic -Werror -Iinclude tests/host/host.cc "$archive" -o $out/host-c++
