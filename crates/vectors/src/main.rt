@@ -32,6 +32,7 @@ fn main() {
     let mut at: usize = 0;
     let mut turns: u64 = 18446744073709551615;
     while 0 < turns {
+        at = room(&mut page, at);
         let step = turn(sizes, &mut buffer, &mut given, &mut second, &mut spare, &mut pieces, &mut page, at);
         match step {
             Step::On(s, n) => {
@@ -47,8 +48,7 @@ fn main() {
     }
 }
 
-// One case: it is read, and its answer is put into the page, which is written when it is nearly full. A malformed case
-// ends the answers.
+// One case: it is read, and its answer is put into the page. A malformed case ends the answers.
 fn turn(
     sizes: Sizes,
     buffer: &mut [u8],
@@ -59,7 +59,6 @@ fn turn(
     page: &mut [u8],
     at: usize,
 ) -> Step {
-    let at = room(page, at);
     let next = read(sizes, buffer, given, second, spare);
     match next {
         Next::Case(case, sizes) => {
