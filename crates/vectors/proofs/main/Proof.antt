@@ -1,7 +1,8 @@
 -- The buffers keep their lengths, and the turns that are left fall.
 use mathlib.Core.Path.{_≡_}
+use Prim.Native.Nat.{ℕ}
 use native.Mathlib.Omega.{arith}
-use lib.ListN.{length, length-replicate}
+use lib.ListN.{length, replicate, length-replicate}
 use borrow.Author.Needs.{needs}
 use Rattle.vectors.proofs.main.Statement.{statement}
 use Rattle.vectors.proofs.main.Tie as tie
@@ -13,8 +14,8 @@ Inv-loop buffer₀ given₀ second₀ spare₀ pieces₀ page₀ sizes₀ at₀ 
 abbrev μ-loop : tie.MeasureT-loop
 μ-loop buffer₀ given₀ second₀ spare₀ pieces₀ page₀ sizes₀ at₀ turns₀ buffer given second spare pieces page sizes at turns = turns
 
-loop-holds : tie.Need-loop-holds Inv-loop μ-loop
-loop-holds c = (length-replicate _ _, length-replicate _ _, length-replicate _ _, length-replicate _ _, length-replicate _ _, length-replicate _ _)
+zeros : (n : ℕ) → length (replicate {A = ℕ} n 0) ≡ n
+zeros n = length-replicate n 0
 
 pub main-spec : {M : Type 1} → statement M
 main-spec =
@@ -22,7 +23,7 @@ main-spec =
     (tie.spec
     Inv-loop
     μ-loop
-    loop-holds
+    (λ c. (zeros 131072, zeros 131072, zeros 131072, zeros 131072, zeros 32768, zeros 65536))
     (λ c. search needs)
     (λ c κs. search needs)
     (λ c. search needs)
