@@ -1,5 +1,5 @@
 #!/bin/sh
-# Builds and runs what links the archive: the host test, the same from C++, and the hut.
+# Builds and runs what links the archive: the host test, the same from C++, and the hut; and tries the program.
 # HIFROSTUM_SKIP_C=1 leaves all of it out. JUDGE_CAPTURE names another program than target/bin/judge_capture.
 set -eu
 cd "$(dirname "$0")/.."
@@ -29,5 +29,6 @@ if $x86 has c++; then
 else
     echo "host: not linked from C++, since there is no C++ compiler for x86-64 here"
 fi
+tests/host/program.sh "$judge_capture" crates/judge_capture/stdin
 tests/host/hut.sh $out/hut "$judge_capture"
 $x86 run $out/host

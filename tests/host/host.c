@@ -375,6 +375,31 @@ static void judging(void)
     expect(judge(q, 28), 0, "the paper's ICMP packet");
 }
 
+/* What the sum can't see: in each kind of packet two words of the body exchanged, as the pressure altitude
+ * and the ellipsoidal height of a report, and a word that goes from 0000 to FFFF. A changed byte it sees. */
+static void unseen(void)
+{
+    static const struct { int family; unsigned protocol; size_t body; } kind[] = {
+        {4, 17, 28}, {4, 6, 40}, {4, 1, 28}, {6, 17, 48}, {6, 6, 60}, {6, 58, 44},
+    };
+    for (size_t k = 0; k < sizeof kind / sizeof *kind; k++) {
+        size_t len = packet_of(p, kind[k].family, kind[k].protocol, 64);
+        uint8_t *altitude = p + kind[k].body + 4, *height = p + kind[k].body + 8, *zero = p + kind[k].body + 12;
+        put(altitude, 1234);
+        put(height, 1187);
+        put(zero, 0);
+        expect(mend(p, len), 0, "a report made here");
+        expect(judge(p, len), 0, "the report");
+        put(altitude, 1187);
+        put(height, 1234);
+        expect(judge(p, len), 0, "altitude and height exchanged go unseen");
+        put(zero, 0xFFFF);
+        expect(judge(p, len), 0, "0000 that became FFFF goes unseen");
+        put(height, 1235);
+        expect(judge(p, len), 9, "a height of one more is seen");
+    }
+}
+
 static void refusals(void)
 {
     /* one byte at a time: where, its value, and the verdict */
@@ -704,6 +729,7 @@ int main(void)
     group("sum_chain");
     judging();
     refusals();
+    unseen();
     group("judge");
     mending();
     mending_each();

@@ -1,24 +1,22 @@
 -- A capture is judged exactly when it is the layout of some packets that have places, and the answer is theirs.
-use mathlib.Core.Path.{_≡_, refl, sym, ap, ap₂, _∙_}
-use Prim.Native.Nat.{ℕ, zero, suc, _+_, _*_, _-_, _/_, _%_, _≤_, _<_}
+use mathlib.Core.Path.{_≡_, refl, sym, ap, _∙_}
+use Prim.Native.Nat.{ℕ, zero, suc, _+_, _≤_, _<_}
 use native.Mathlib.Omega.{arith}
-use mathlib.Core.List.{List, [], _∷_, _++_, map}
-use mathlib.Core.Bool.{Bool, true, false, true≢false}
-use lib.ListN.{length, getD, take, drop, length-map, List·getD-map}
+use mathlib.Core.List.{List, [], _∷_, map}
+use mathlib.Core.Bool.{Bool, true, false}
+use lib.ListN.{length, getD, drop}
 use lib.Seq.{getD-drop}
-use lib.Dec.{ltb, eqb}
-use borrow.Author.Tests.{le-ltb, ltb-false, eqb-true, not-false}
+use lib.Dec.{ltb}
+use borrow.Author.Tests.{le-ltb, ltb-false}
 use Rattle.verdicts.specs.Numbers.{numberOf}
 use Rattle.verdicts.specs.Rules.{_⇒_, verdictBy}
-use Rattle.verdicts.specs.declared.Verdict.{Verdict}
 use Rattle.verdicts.specs.declared.Verdict.the-variants.{Good, Mark, Edition, Record, Room}
 use Rattle.verdicts.proofs.Rules.{first-map}
-use Rattle.verdicts.proofs.Tests.{or-false, and-true}
-use Rattle.wire.specs.Bytes.{byteAt, Bytes, wordAt, put}
+use Rattle.wire.specs.Bytes.{byteAt, Bytes, put}
 use Rattle.wire.proofs.Writes.{put-wrote}
 use Rattle.judge.specs.Judge.{judgeOf}
-use Rattle.capture.specs.Records.{Records, otherMark, otherEdition, recordsIn, readOf, laid, captureOf, Small}
-use Rattle.capture.specs.Judged.{headRules, recordRules, captureRules, verdictsOf, judgedOf}
+use Rattle.capture.specs.Records.{recordsIn, laid, captureOf, Small}
+use Rattle.capture.specs.Judged.{captureRules, verdictsOf, judgedOf}
 use Rattle.capture.specs.declared.Judged.{Judged}
 use Rattle.capture.proofs.Heads.{mark-laid, edition-laid, head-laid}
 use Rattle.capture.proofs.Passes.{verdicts-length}

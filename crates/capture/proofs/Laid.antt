@@ -1,13 +1,13 @@
 -- Reading what was laid out gives the packets back, and an undamaged capture is the layout of its records.
 use mathlib.Core.Path.{_≡_, refl, sym, ap, ap₂, _∙_}
-use Prim.Native.Nat.{ℕ, zero, suc, _+_, _*_, _-_, _/_, _%_, _≤_, _<_}
+use Prim.Native.Nat.{ℕ, _+_, _*_, _/_, _%_, _≤_}
 use native.Mathlib.Omega.{arith}
-use mathlib.Core.List.{List, [], _∷_, _++_}
+use mathlib.Core.List.{List, [], _∷_}
 use mathlib.Core.Bool.{true, false, true≢false}
 use lib.ListN.{length, take, drop, length-append, length-take, length-drop, take-append-drop, drop-of-length-le}
 use lib.Seq.{take-append-seam, drop-append-seam, drop-drop, getD-drop, length-take-le}
-use Rattle.wire.specs.Bytes.{Bytes, wordAt, part}
-use Rattle.capture.specs.Records.{Front, nothing, damage, whole, frontOf, Records, none, _before_, readOf, laid, captureOf, Small}
+use Rattle.wire.specs.Bytes.{Bytes, part}
+use Rattle.capture.specs.Records.{whole, frontOf, _before_, readOf, laid, Small}
 use Rattle.capture.proofs.Reading.{Whole, front-whole, front-end, read-end, read-whole, by-reading}
 
 -- ---- laid out, then read

@@ -4,12 +4,11 @@ use Prim.Native.Nat.{ℕ, _+_, _-_, _≤_, _<_}
 use native.Mathlib.Omega.{arith}
 use native.Mathlib.Numerals.{add-one}
 use mathlib.Core.List.{List, []}
-use mathlib.Core.Bool.{true}
 use lib.ListN.{length, take, drop, set, length-map, length-set}
 use Rattle.verdicts.specs.Numbers.{numberOf}
 use Rattle.wire.specs.Bytes.{put}
 use Rattle.judge.specs.Judge.{judgeOf}
-use Rattle.capture.specs.Records.{Records, none, readOf, recordsIn}
+use Rattle.capture.specs.Records.{Records, none, ruin, readOf, recordsIn}
 use Rattle.capture.specs.Judged.{verdictsOf, countedOf}
 use Rattle.capture.specs.declared.Counted.the-variants.{Whole, Damaged}
 use Rattle.capture.proofs.Places.{Passed}
@@ -42,7 +41,7 @@ module _ {c : List ℕ} where
       let n : length (recordsIn c .packets) ≡ count = omega (arith, ap (λ (r : Records). length (r .packets)) e) in
       simp (whole, n)
 
-  pub counting-damage : {at count : ℕ} → readOf (drop at c) ≡ record { packets = []; broken = true } → Counting c at count → Damaged ≡ countedOf (recordsIn c)
+  pub counting-damage : {at count : ℕ} → readOf (drop at c) ≡ ruin → Counting c at count → Damaged ≡ countedOf (recordsIn c)
   counting-damage e k = simp (sym (k .same) ∙ ap (λ (r : Records). r .broken) e)
 
 -- ---- the second pass: with the verdicts from here on written, the buffer is the answer's

@@ -1,14 +1,13 @@
 -- What `record_at` answers at each place of a capture, and what its answer tells of the records from there on.
-use mathlib.Core.Path.{_≡_, refl, sym, ap, ap₂, _∙_}
+use mathlib.Core.Path.{_≡_, refl, ap, _∙_}
 use Prim.Native.Nat.{ℕ, _+_, _-_, _≤_, _<_}
 use native.Mathlib.Omega.{arith}
 use native.Mathlib.Nat.{add-zero}
 use mathlib.Core.List.{List, []}
-use mathlib.Core.Bool.{true}
 use lib.ListN.{length, take, drop, length-drop}
 use lib.Seq.{getD-drop, drop-drop}
-use Rattle.wire.specs.Bytes.{wordAt, part}
-use Rattle.capture.specs.Records.{Front, nothing, damage, whole, frontOf, Records, none, _before_, readOf, placed, recordAt}
+use Rattle.wire.specs.Bytes.{wordAt}
+use Rattle.capture.specs.Records.{Front, damage, whole, frontOf, Records, none, ruin, _before_, readOf, placed, recordAt}
 use Rattle.capture.specs.declared.Found.{Found}
 use Rattle.capture.specs.declared.Found.the-variants.{Record, End, Damaged}
 use Rattle.capture.proofs.Reading.{Whole, Begins, ends, breaks, holds, begins, front-end, front-short, front-long, front-cut, front-whole, read-end, read-damage, read-whole}
@@ -51,7 +50,7 @@ pub record Passed (c : List ℕ) (at start end : ℕ) : Type 0 where
 pub data Past (c : List ℕ) (at : ℕ) : Found → Type 0 where
   at-record : (start end : ℕ) → Passed c at start end → Past c at (Record start end)
   at-last : readOf (drop at c) ≡ none → Past c at End
-  at-damage : readOf (drop at c) ≡ record { packets = []; broken = true } → Past c at Damaged
+  at-damage : readOf (drop at c) ≡ ruin → Past c at Damaged
 
 module _ (c : List ℕ) (at : ℕ) where
   passed : (n : ℕ) → Whole (drop at c) n → frontOf (drop at c) ≡ whole n → Passed c at (at + 2) (at + 2 + n)
@@ -87,5 +86,5 @@ module _ {c : List ℕ} {at : ℕ} where
   pub is-last : Past c at End → readOf (drop at c) ≡ none
   is-last (at-last e) = e
 
-  pub is-damage : Past c at Damaged → readOf (drop at c) ≡ record { packets = []; broken = true }
+  pub is-damage : Past c at Damaged → readOf (drop at c) ≡ ruin
   is-damage (at-damage e) = e

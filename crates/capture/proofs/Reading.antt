@@ -1,17 +1,15 @@
 -- Laws of reading: what some bytes begin with, and the records one after the other.
-use mathlib.Core.Path.{_≡_, refl, sym, ap, _∙_}
-use Prim.Native.Nat.{ℕ, zero, suc, _+_, _-_, _≤_, _<_}
+use mathlib.Core.Path.{_≡_, refl, ap, _∙_}
+use Prim.Native.Nat.{ℕ, zero, suc, _+_, _≤_, _<_}
 use native.Mathlib.Omega.{arith}
-use native.Mathlib.Decide.{decLt}
-use mathlib.Core.List.{List, [], _∷_}
-use mathlib.Core.Bool.{Bool, true, false}
+use mathlib.Core.List.{List}
+use mathlib.Core.Bool.{true, false}
 use lib.ListN.{length, drop, length-drop}
-use lib.Seq.{getD-drop}
 use lib.Dec.{ltb, eqb}
 use borrow.Author.Tests.{lt-ltb, le-ltb, eq-eqb, ne-eqb, ltb-true, ltb-false, eqb-true, eqb-false}
 use Rattle.verdicts.proofs.Tests.{by-cases, or-false}
 use Rattle.wire.specs.Bytes.{wordAt, part}
-use Rattle.capture.specs.Records.{Front, nothing, damage, whole, damaged, frontOf, Records, none, _before_, going, readBy, readOf}
+use Rattle.capture.specs.Records.{Front, nothing, damage, whole, damaged, frontOf, Records, none, ruin, _before_, going, readBy, readOf}
 
 -- ---- what some bytes begin with
 module _ (xs : List ℕ) where
@@ -105,7 +103,7 @@ module _ (xs : List ℕ) where
   pub read-end : frontOf xs ≡ nothing → readOf xs ≡ none
   read-end e = read-step xs ∙ rw e
 
-  pub read-damage : frontOf xs ≡ damage → readOf xs ≡ record { packets = []; broken = true }
+  pub read-damage : frontOf xs ≡ damage → readOf xs ≡ ruin
   read-damage e = read-step xs ∙ rw e
 
   pub read-whole : (n : ℕ) → frontOf xs ≡ whole n → readOf xs ≡ part xs 2 n before readOf (drop (2 + n) xs)
@@ -114,7 +112,7 @@ module _ (xs : List ℕ) where
 -- what holds of the end, of damage, and of a record before what it holds of, holds of all that is read
 module _ (P : List ℕ → Records → Type 0)
     (end : (xs : List ℕ) → length xs ≡ 0 → P xs none)
-    (break : (xs : List ℕ) → 0 < length xs → damaged xs ≡ true → P xs (record { packets = []; broken = true }))
+    (break : (xs : List ℕ) → 0 < length xs → damaged xs ≡ true → P xs ruin)
     (more : (xs : List ℕ) (n : ℕ) → Whole xs n → P (drop (2 + n) xs) (readOf (drop (2 + n) xs)) → P xs (part xs 2 n before readOf (drop (2 + n) xs))) where
   turn : (xs : List ℕ) {f : Front} → Begins xs f → frontOf xs ≡ f → ((n : ℕ) → P (drop (2 + n) xs) (readOf (drop (2 + n) xs))) → P xs (readOf xs)
   turn xs (ends z) e on = rw (read-end xs e) (end xs z)

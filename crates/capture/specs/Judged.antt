@@ -1,7 +1,6 @@
 -- The verdicts on a capture's records, and the refusals of a capture.
 use Prim.Native.Nat.{ℕ}
 use mathlib.Core.List.{List, [], _∷_, _++_, map}
-use mathlib.Core.Bool.{true, false}
 use lib.ListN.{length}
 use lib.Dec.{ltb}
 use Rattle.verdicts.specs.Choice.{if_then_else_}

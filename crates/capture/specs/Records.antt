@@ -36,16 +36,22 @@ pub record Records : Type 0 where
   pub packets : List (List ℕ)
   pub broken : Bool
 
+-- nothing is left
 abbrev pub none : Records
 none = record { packets = []; broken = false }
+
+-- what is left is damaged
+abbrev pub ruin : Records
+ruin = record { packets = []; broken = true }
 
 infixr 5 _before_
 abbrev pub _before_ : List ℕ → Records → Records
 p before rest = record { packets = p ∷ rest .packets; broken = rest .broken }
 
+-- a whole record is read, and reading goes on behind it
 abbrev pub going : Front → (ℕ → Records) → Records
 going nothing on = none
-going damage on = record { packets = []; broken = true }
+going damage on = ruin
 going (whole n) on = on n
 
 -- at most so many records

@@ -55,6 +55,7 @@ misfit-tells n o size u =
     inr
     (⊎-elim (λ h. absurd (eqb-false n 6 e (h .0))) (λ h. h))))
 
+-- number by number
 by : (F : ℕ → Type 0) → F 0 → ((n : ℕ) → F (suc n)) → (n : ℕ) → F n
 by F a b zero = a
 by F a b (suc n) = b n
@@ -139,10 +140,12 @@ module _ (p : List ℕ) where
       tt
 
   -- ---- from conditions to verdicts
+  -- the first condition that holds leads to the verdict of its rule
   at : (n : ℕ) → stop p n → judgeOf p ≡ nth n (judgeRules p)
   unfolding judgeOf
   at n s = stopped (judgeRules p) (conditionsOf p) told n s
 
+  -- and is a case of that verdict
   place : (n : ℕ) → stop p n → caseOf (nth n (judgeRules p)) p
   unfolding judgeRules outerRules messageRules sumRules
   place =
@@ -190,10 +193,10 @@ exactly v p =
       back p v,
     )
 
--- so 10 to 16 never come from it
-pub never : (p : List ℕ) → numberOf (judgeOf p) ≤ 9
+-- 10 to 16 never come from the judge
+pub at-most-nine : (p : List ℕ) → numberOf (judgeOf p) ≤ 9
 unfolding judgeOf judgeRules outerRules messageRules sumRules
-never p = ranked (λ v. numberOf v ≤ 9) (judgeRules p) (omega arith) (omega arith)
+at-most-nine p = ranked (λ v. numberOf v ≤ 9) (judgeRules p) (omega arith) (omega arith)
 
 -- a promise that is one equation, as every one of the layout's and the judge's is, allows one answer
 pub one-answer : {A : Type 0} {promised r s : A} → r ≡ promised → s ≡ promised → r ≡ s

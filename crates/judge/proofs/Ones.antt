@@ -20,6 +20,7 @@ bytes-append [] b u v i = v i
 bytes-append (x ∷ a) b u v zero = u 0
 bytes-append (x ∷ a) b u v (suc i) = bytes-append a b (λ j. u (suc j)) v i
 
+-- the same, byte by byte
 abbrev pub Small : List ℕ → Type 0
 Small [] = Unit
 Small (x ∷ xs) = (x < 256) × Small xs
@@ -48,6 +49,7 @@ bytes-part p a n b = bytes-take n (drop a p) (bytes-drop a p b)
 pub carry-fold : (a b : ℕ) → a ≤ 65535 → b ≤ 65535 → a ⊞ b ≡ fold (a + b)
 carry-fold a b h k = omega (arith, fold-as (a + b))
 
+-- and so of any string of bytes it is the fold of the total
 pub summed-fold : (xs : List ℕ) → Bytes xs → summed xs ≡ fold (total xs)
 unfolding summed weigh
 summed-fold [] b = sym (fold-fixed 0 (omega arith))

@@ -14,6 +14,7 @@ use Rattle.sums.specs.Fold.{passes}
 use Rattle.sums.proofs.Passing.{passing, passed}
 use Rattle.judge.specs.Cases.{Stops}
 
+-- b tells whether c holds
 abbrev pub Tells : Bool → Type 0 → Type 0
 Tells b c = (b ≡ true → c) × (b ≡ false → ¬ c)
 

@@ -22,8 +22,7 @@ Listed v n = ((v ≡ 4) × ((n ≡ 1) ⊎ (n ≡ 6) ⊎ (n ≡ 17))) ⊎ ((v ≡
 
 abbrev pub conditionsOf : List ℕ → List (Type 0)
 conditionsOf p =
-    let v = versionOf p in
-    let n = protocolOf p in
+    let v = versionOf p in let n = protocolOf p in
     let size = lengthOf p in
     (length p ≡ 0)  -- 0: no bytes
     ∷ ((v ≢ 4) × (v ≢ 6))  -- 1: version

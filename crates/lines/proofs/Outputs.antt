@@ -1,6 +1,6 @@
 -- A whole run prints exactly the bytes of the lines that the layout defines.
 use mathlib.Core.Path.{_≡_, refl, sym, ap, ap₂, _∙_}
-use Prim.Native.Nat.{ℕ, zero, suc, _+_, _*_, _-_, _/_, _%_, _^_, _≤_, _<_}
+use Prim.Native.Nat.{ℕ, zero, suc, _/_, _%_, _^_, _≤_, _<_}
 use native.Mathlib.Omega.{arith}
 use native.Mathlib.Nat.{pow-suc}
 use mathlib.Core.List.{List, [], _∷_, _++_}
@@ -8,7 +8,7 @@ use mathlib.Core.Bool.{Bool, true, false}
 use lib.ListN.{length, take, drop, length-append}
 use lib.Seq.{sets-eq, length-sets, take-append-seam}
 use lib.Dec.{eqb, ltb}
-use borrow.Author.Tests.{lt-ltb, ltb-true, ltb-false}
+use borrow.Author.Tests.{lt-ltb, ltb-true}
 use Rattle.io.specs.Digits.{digits, glyph}
 use Rattle.verdicts.specs.Choice.{if_then_else_}
 use Rattle.verdicts.specs.Numbers.{numberOf}
@@ -21,7 +21,7 @@ use Rattle.judge.specs.Judge.{judgeOf}
 use Rattle.capture.specs.Judged.{headRules}
 use Rattle.lines.specs.Text.{placesBy, places, decimalOf}
 use Rattle.lines.specs.Lines.{verdictOn, judgedText, totalsText, stoppedText, textOf, printed, isGood, isUnsummed, isRefused, linesOf}
-use Rattle.lines.specs.Feed.{startOf, wantOf, more, tallied, stopping, judging, ending, going, afterHead, afterLength, afterPacket, decidedIn, decidedOf, fedOf}
+use Rattle.lines.specs.Feed.{startOf, wantOf, more, stopping, judging, ending, going, afterHead, afterLength, afterPacket, decidedIn, decidedOf, fedOf}
 use Rattle.lines.specs.Run.{outputBy, _onto_, runBy}
 use Rattle.lines.specs.declared.Phase.{Phase}
 use Rattle.lines.specs.declared.Phase.the-variants as phase

@@ -1,12 +1,12 @@
 -- A whole run decides exactly the lines that the layout defines.
 use mathlib.Core.Path.{_≡_, refl, sym, ap, ap₂, _∙_}
-use Prim.Native.Nat.{ℕ, zero, suc, _+_, _-_, _≤_, _<_}
+use Prim.Native.Nat.{ℕ, zero, suc, _+_, _≤_, _<_}
 use native.Mathlib.Omega.{arith}
 use native.Mathlib.Nat.{add-zero, zero-add}
 use mathlib.Core.List.{List, [], _∷_, _++_}
 use mathlib.Core.Bool.{Bool, true, false}
 use lib.ListN.{length, take, drop, length-take, length-drop}
-use lib.Seq.{getD-take, take-take, drop-drop, take-length}
+use lib.Seq.{getD-take, take-take, drop-drop}
 use lib.Dec.{eqb, ltb}
 use borrow.Author.Tests.{ne-eqb, lt-ltb}
 use Rattle.verdicts.specs.Choice.{if_then_else_}
@@ -14,11 +14,11 @@ use Rattle.verdicts.specs.Numbers.{numberOf}
 use Rattle.verdicts.specs.declared.Verdict.the-variants.{Mark, Edition, Record}
 use Rattle.verdicts.proofs.Tests.{by-cases}
 use Rattle.wire.specs.Bytes.{wordAt, part}
-use Rattle.capture.specs.Records.{Records, none, _before_, readOf, recordsIn, otherMark, otherEdition}
+use Rattle.capture.specs.Records.{Records, none, ruin, _before_, readOf, otherMark, otherEdition}
 use Rattle.capture.proofs.Reading.{Whole, Damage, cut-length, too-long, cut-packet, damage-is, by-reading}
 use Rattle.capture.proofs.Heads.{mark-taken, edition-taken, edition-long}
-use Rattle.lines.specs.Lines.{verdictOn, recordLines, howMany, isGood, isUnsummed, isRefused, tallyOf, lastLine, linesOf}
-use Rattle.lines.specs.Feed.{zeros, startOf, wantOf, more, tallied, stopping, judging, ending, going, afterHead, afterLength, afterPacket, decidedOf}
+use Rattle.lines.specs.Lines.{verdictOn, recordLines, howMany, isGood, isUnsummed, isRefused, lastLine, linesOf}
+use Rattle.lines.specs.Feed.{zeros, startOf, wantOf, more, tallied, stopping, judging, ending, going, afterLength, decidedOf}
 use Rattle.lines.specs.Run.{_onto_, runBy}
 use Rattle.lines.specs.declared.Phase.{Phase}
 use Rattle.lines.specs.declared.Phase.the-variants as phase
@@ -26,7 +26,7 @@ use Rattle.lines.specs.declared.Tally.{Tally}
 use Rattle.lines.specs.declared.State.{State}
 use Rattle.lines.specs.declared.Decided.{Decided}
 use Rattle.lines.specs.declared.Line.{Line}
-use Rattle.lines.specs.declared.Line.the-variants.{Nothing, Judged, Totals, Stopped}
+use Rattle.lines.specs.declared.Line.the-variants.{Judged, Totals, Stopped}
 use Rattle.lines.proofs.Decisions as decisions
 
 abbrev at : Phase → Tally → State
@@ -155,7 +155,7 @@ ends xs e (suc k) t h w =
     turn k (at phase.Length t) xs (ending t) (λ z. omega arith) (decisions.at-end t (take 2 xs) (omega (arith, length-take 2 xs)))
     ∙ closes k t (drop 2 xs) (Totals t) (Totals (added t [])) (ap Totals (added-none t))
 
-stops : (xs : List ℕ) → 0 < length xs → Damage xs → Runs xs (record { packets = []; broken = true })
+stops : (xs : List ℕ) → 0 < length xs → Damage xs → Runs xs ruin
 unfolding recordLines lastFrom
 stops xs s d zero t h w = absurd (omega arith)
 stops xs s d (suc zero) t h w = absurd (omega arith)

@@ -30,42 +30,39 @@ pub fn answer(
     let a = case.number;
     let operation = case.operation;
     match operation {
-        0 => last(judge::judge(buffer), page, at),
-        1 => {
-            let v = mend::mend(buffer);
-            changed(v, buffer, page, at)
-        }
-        2 => {
-            let v = edit::lower_lifetime(buffer);
-            changed(v, buffer, page, at)
-        }
-        3 => {
-            let v = edit::set_address(buffer, (a % 4294967296) as u32, second);
-            changed(v, buffer, page, at)
-        }
-        4 => {
-            let v = edit::set_stretch(buffer, a as usize, second);
-            changed(v, buffer, page, at)
-        }
+        1..=4 => edited(operation, a, buffer, second, page, at),
         5 => captured(buffer, a as usize, spare, page, at),
         6 => chained(buffer, second, pieces, page, at),
         12 => printed(buffer, page, at),
-        _ => summed(operation, a, buffer, page, at),
+        _ => computed(operation, a, buffer, page, at),
+    }
+}
+
+// The operations that write into the buffer: the verdict, and the digest of what they left.
+fn edited(
+    operation: u8,
+    a: u64,
+    buffer: &mut [u8],
+    second: &[u8],
+    page: &mut [u8],
+    at: usize,
+) -> usize {
+    let verdict = edit_with(operation, a, buffer, second);
+    let at = put(page, at, wide(number(verdict)), b' ');
+    put(page, at, digest(buffer), b'\n')
+}
+
+fn edit_with(operation: u8, a: u64, buffer: &mut [u8], second: &[u8]) -> Verdict {
+    match operation {
+        1 => mend::mend(buffer),
+        2 => edit::lower_lifetime(buffer),
+        3 => edit::set_address(buffer, (a % 4294967296) as u32, second),
+        _ => edit::set_stretch(buffer, a as usize, second),
     }
 }
 
 fn wide(v: u8) -> u64 {
     v as u64
-}
-
-fn last(v: Verdict, page: &mut [u8], at: usize) -> usize {
-    put(page, at, wide(number(v)), b'\n')
-}
-
-// The verdict and the digest of what was left.
-fn changed(v: Verdict, bytes: &[u8], page: &mut [u8], at: usize) -> usize {
-    let at = put(page, at, wide(number(v)), b' ');
-    put(page, at, digest(bytes), b'\n')
 }
 
 fn digest(bytes: &[u8]) -> u64 {
@@ -137,9 +134,10 @@ fn partial(s: Partial, page: &mut [u8], at: usize) -> usize {
     put(page, at, odd, b'\n')
 }
 
-// The operations of the sums.
-fn summed(operation: u8, a: u64, buffer: &[u8], page: &mut [u8], at: usize) -> usize {
+// The operations that only read.
+fn computed(operation: u8, a: u64, buffer: &[u8], page: &mut [u8], at: usize) -> usize {
     match operation {
+        0 => put(page, at, wide(number(judge::judge(buffer))), b'\n'),
         7 => partial(sums::sum(buffer), page, at),
         8 => put(page, at, sums::fold_at(buffer, a % 2 == 1).0 as u64, b'\n'),
         9 => {
@@ -147,7 +145,11 @@ fn summed(operation: u8, a: u64, buffer: &[u8], page: &mut [u8], at: usize) -> u
             put(page, at, sums::field_of(s.fold).0 as u64, b'\n')
         }
         10 => {
-            let field = sums::update(Field(bits(a, 4294967296)), Fold(bits(a, 65536)), Fold(bits(a, 1)));
+            let field = sums::update(
+                Field(bits(a, 4294967296)),
+                Fold(bits(a, 65536)),
+                Fold(bits(a, 1)),
+            );
             put(page, at, field.0 as u64, b'\n')
         }
         _ => {

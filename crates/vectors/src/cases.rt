@@ -47,7 +47,13 @@ pub enum Next {
 }
 
 // Reads the next case. Its buffer is at the start of the first buffer, and payload two at that of the third.
-pub fn read(sizes: Sizes, buffer: &mut [u8], given: &mut [u8], second: &mut [u8], spare: &mut [u8]) -> Next {
+pub fn read(
+    sizes: Sizes,
+    buffer: &mut [u8],
+    given: &mut [u8],
+    second: &mut [u8],
+    spare: &mut [u8],
+) -> Next {
     let head = case_head();
     match head {
         Head::Case(case) => {

@@ -28,12 +28,24 @@ fn main() {
     let mut spare = [0u8; 131072];
     let mut pieces = [0u32; 32768];
     let mut page = [0u8; 65536];
-    let mut sizes = Sizes { buffer: 0, given: 0 };
+    let mut sizes = Sizes {
+        buffer: 0,
+        given: 0,
+    };
     let mut at: usize = 0;
     let mut turns: u64 = 18446744073709551615;
     while 0 < turns {
         at = room(&mut page, at);
-        let step = turn(sizes, &mut buffer, &mut given, &mut second, &mut spare, &mut pieces, &mut page, at);
+        let step = turn(
+            sizes,
+            &mut buffer,
+            &mut given,
+            &mut second,
+            &mut spare,
+            &mut pieces,
+            &mut page,
+            at,
+        );
         match step {
             Step::On(s, n) => {
                 sizes = s;
@@ -64,7 +76,15 @@ fn turn(
         Next::Case(case, sizes) => {
             let size = within(buffer, sizes.buffer);
             let two = within(second, case.two);
-            let at = answer(case, &mut buffer[..size], &second[..two], spare, pieces, page, at);
+            let at = answer(
+                case,
+                &mut buffer[..size],
+                &second[..two],
+                spare,
+                pieces,
+                page,
+                at,
+            );
             Step::On(sizes, at)
         }
         Next::End => Step::Done(at),
