@@ -1,20 +1,18 @@
 -- What is known of a packet whose shape nothing refuses.
-use mathlib.Core.Path.{_≡_, refl, sym, ap, _∙_}
-use Prim.Native.Nat.{ℕ, _+_, _-_, _*_, _/_, _%_, _<_, _≤_}
+use mathlib.Core.Path.{_≡_}
+use Prim.Native.Nat.{ℕ, _+_, _-_, _%_, _<_, _≤_}
 use native.Mathlib.Omega.{arith}
 use mathlib.Core.List.{List}
-use mathlib.Core.Bool.{Bool, true, false, not, _&&_, _||_, true≢false}
+use mathlib.Core.Bool.{true, false, true≢false}
 use lib.ListN.{length}
-use lib.Dec.{eqb, ltb}
+use lib.Dec.{ltb}
 use borrow.Author.Tests.{ltb-false, eqb-true, ne-eqb}
-use Rattle.verdicts.specs.Choice.{if_then_else_}
 use Rattle.verdicts.specs.Rules.{clear}
 use Rattle.verdicts.proofs.Tests.{by-cases, or-false}
 use Rattle.wire.specs.Bytes.{byteAt, wordAt}
 use Rattle.wire.specs.Outer.{four, six, versionOf, header4Of, startOf, endOf, familyOf, protocolOf, outerRules}
 use Rattle.wire.specs.Table.{planOf}
-use Rattle.wire.specs.Inner.{messageRules, misfitOf, rowIn, lengthOf, bodyOf, offsetOf, tcp, udp, fieldAt, pseudo}
-use Rattle.wire.specs.declared.Plan.{Plan}
+use Rattle.wire.specs.Inner.{messageRules, rowIn, lengthOf, bodyOf, offsetOf, tcp, udp, fieldAt, pseudo}
 use Rattle.wire.proofs.Lines.{Lined, row-lined, covered}
 
 pub record Facts (p : List ℕ) : Type 0 where

@@ -1,8 +1,6 @@
 -- The verdict's number, and the packet as the call leaves it.
 use mathlib.Core.Path.{_∙_, ap}
 use Prim.Native.Nat.{ℕ}
-use mathlib.Core.List.{List}
-use Rattle.verdicts.specs.declared.Verdict.{Verdict}
 use Rattle.hifrostum.specs.Answers.{numbered}
 use borrow.Author.Needs.{needs}
 use Rattle.hifrostum.proofs.hifrostum_set_address.Statement.{statement}
