@@ -105,7 +105,13 @@ pub fn pseudo_sum(packet: &[u8], m: Message) -> Partial
     };
     let family = m.family;
     match family {
-        Family::Four => sums::join(sums::sum(&packet[12..20]), rest),
-        Family::Six => sums::join(sums::sum(&packet[8..40]), rest),
+        Family::Four => sums::join(
+            sums::sum(&packet[wire::ADDRESSES_4..wire::ADDRESSES_4_END]),
+            rest,
+        ),
+        Family::Six => sums::join(
+            sums::sum(&packet[wire::ADDRESSES_6..wire::ADDRESSES_6_END]),
+            rest,
+        ),
     }
 }
