@@ -4,24 +4,22 @@ use mathlib.Core.Path.{_≡_, refl, sym, ap, ap₂, _∙_}
 use mathlib.Core.Bool.{Bool, true, false, _&&_, _||_}
 use mathlib.Core.List.{List, [], _∷_, _++_}
 use native.Mathlib.Omega.{arith}
-use lib.ListN.{length, take, drop, length-drop}
-use lib.Seq.{length-take-le, take-add, drop-drop, take-length, getD-take, getD-drop, ext-getD}
+use lib.ListN.{length, drop}
+use lib.Seq.{take-add, drop-drop, getD-take, getD-drop, ext-getD}
 use lib.Dec.{eqb}
 use borrow.Author.Tests.{eq-eqb}
 use Rattle.verdicts.proofs.Tests.{by-cases}
-use Rattle.wire.specs.Bytes.{byteAt, part, put, putWord}
+use Rattle.wire.specs.Bytes.{part, put, putWord}
 use Rattle.wire.specs.Outer.{startOf, endOf, protocolOf}
 use Rattle.wire.specs.Inner.{fieldAt, bodyOf}
 use Rattle.wire.proofs.Facts.{Facts}
 use Rattle.wire.proofs.Writes.{Wrote, put-wrote, part-below}
+use Rattle.mend.proofs.Tally.{part-length}
 use Rattle.edit.specs.Edits.{allZero, blank}
 
 zero-append : (x y : List ℕ) → allZero (x ++ y) ≡ (allZero x && allZero y)
 zero-append [] y = refl
 zero-append (a ∷ x) y = by-cases (eqb a 0) (λ t. simp t (zero-append x y)) (λ t. simp t)
-
-part-length : (p : List ℕ) (a n : ℕ) → a + n ≤ length p → length (part p a n) ≡ n
-part-length p a n h = length-take-le n (drop a p) (rw (length-drop a p) (omega arith))
 
 -- a part in two
 part-cut : (p : List ℕ) (a b c : ℕ) → a ≤ b → b ≤ c → part p a (c - a) ≡ part p a (b - a) ++ part p b (c - b)

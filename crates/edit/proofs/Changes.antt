@@ -1,4 +1,4 @@
--- The address edit and the stretch.
+-- What the address edit and the stretch keep.
 use mathlib.Core.Path.{_≡_, refl, sym, _∙_}
 use mathlib.Core.Logic.{inl, inr}
 use Prim.Native.Nat.{ℕ, suc, _+_, _-_, _<_, _≤_}
@@ -7,66 +7,57 @@ use mathlib.Core.List.{List, [], _∷_}
 use mathlib.Core.Bool.{Bool, true, false, true≢false}
 use lib.ListN.{length}
 use lib.Dec.{eqb}
-use borrow.Author.Tests.{ltb-false, eqb-true, eqb-false, eq-eqb, ne-eqb, not-false}
+use borrow.Author.Tests.{ltb-false, eqb-false, eq-eqb, ne-eqb}
 use Rattle.verdicts.specs.Rules.{clear}
 use Rattle.verdicts.proofs.Tests.{by-cases, or-false}
 use Rattle.sums.specs.Total.{weigh}
 use Rattle.wire.specs.Outer.{four, startOf, endOf, protocolOf}
 use Rattle.wire.specs.Inner.{lengthOf, bodyOf, fieldAt, pseudo}
 use Rattle.wire.specs.Bytes.{part, put, putWord, Bytes}
-use Rattle.wire.specs.Cover.{addressesAt, addressesLength, addressSize}
+use Rattle.wire.specs.Cover.{addressesAt}
 use Rattle.wire.proofs.Writes.{put-wrote, bytes-wrote}
 use Rattle.wire.proofs.Facts.{Facts}
 use Rattle.wire.proofs.Same.{Same, same-self, same-step}
 use Rattle.judge.specs.Sums.{messageTotal}
+use Rattle.mend.specs.Mend.{Outside}
 use Rattle.mend.proofs.Tally.{tally, weigh-tally}
 use Rattle.mend.proofs.Totals.{addressTally, restTally, message-tally}
 use Rattle.mend.proofs.Blocks.{header-out, message-out, message-address, message-in, message-some, addresses-end}
-use Rattle.mend.proofs.Places.{soft-header, soft-body, word-below, word-above}
+use Rattle.mend.proofs.Places.{soft-header, soft-message, word-below, word-above}
 use Rattle.mend.proofs.Fresh.{sameF, header-carry, message-carry, header-self, message-self}
 use Rattle.mend.proofs.Accepted.{Accepted}
 use Rattle.edit.specs.Update.{messageAfter}
-use Rattle.edit.specs.Edits.{sideAt, addressRules, addressLeft, allZero, blank, stretchRules, stretchLeft}
-use Rattle.edit.specs.Runs.{Outside}
+use Rattle.edit.specs.Edits.{Addressed, addressLeft, allZero, blank, stretchRules, stretchLeft}
 use Rattle.edit.proofs.Steps.{Kept, header-step, message-step}
 
-pub record Placed (p : List ℕ) (at n : ℕ) : Type 0 where
-  pub low : 8 ≤ at
-  pub low4 : four p ≡ true → 12 ≤ at
-  pub from : addressesAt p ≤ at
-  pub to : at + n ≤ addressesAt p + addressesLength p
+-- ---- the address
+addresses-low : (p : List ℕ) → (8 ≤ addressesAt p) × (four p ≡ true → addressesAt p ≡ 12)
+addresses-low p =
+    by-cases (four p)
+    (λ f. simp f (omega arith, λ g. refl))
+    (λ f. simp f (omega arith, λ g. absurd (true≢false (sym g))))
 
-pub side-places : (p : List ℕ) (side : ℕ) (new : List ℕ) → clear (addressRules p side new) → Placed p (sideAt p side) (length new)
-side-places p side new c =
-    let e = eqb-true (length new) (addressSize p) (not-false (eqb (length new) (addressSize p)) (c .1 .0)) in
-    rw e
-    (by-cases (four p)
-    (λ f. by-cases (eqb side 0)
-    (λ s. simp (f, s) (record { low = omega arith; low4 = λ g. omega arith; from = simp f (omega arith); to = simp f (omega arith) }))
-    (λ s. simp (f, s) (record { low = omega arith; low4 = λ g. omega arith; from = simp f (omega arith); to = simp f (omega arith) })))
-    (λ f. by-cases (eqb side 0)
-    (λ s. simp (f, s) (record { low = omega arith; low4 = λ g. absurd (true≢false (sym g ∙ f)); from = simp f (omega arith); to = simp f (omega arith) }))
-    (λ s. simp (f, s) (record { low = omega arith; low4 = λ g. absurd (true≢false (sym g ∙ f)); from = simp f (omega arith); to = simp f (omega arith) }))))
-
-module _ (p : List ℕ) (by : Bytes p) (c : Accepted p) (at : ℕ) (new : List ℕ) (bn : Bytes new) (l : Placed p at (length new)) where
+module _ (p : List ℕ) (by : Bytes p) (c : Accepted p) (at : ℕ) (new : List ℕ) (bn : Bytes new) (l : Addressed p at (length new)) where
   pub address-step : Kept p (addressLeft p at new) at new
   address-step =
       let k = c .facts in
       let z = same-self p in
       let ends = addresses-end k in
+      let low = addresses-low p in
       let w = put-wrote p at new (omega arith) in
-      let s = same-step z w (soft-header k at (length new) (omega arith) (omega arith) (λ f. (omega arith, inr (let e = l .low4 f in omega arith)))) in
-      let h = header-step k by s (bytes-wrote w by bn) at new w (omega arith) (λ f. inr (l .low4 f)) in
+      let s = same-step z w (soft-header k at (length new) (omega arith) (omega arith) (λ f. (omega arith, inr (let e = low .1 f in omega arith)))) in
+      let h = header-step k by s (bytes-wrote w by bn) at new w (omega arith) (λ f. inr (let e = low .1 f in omega arith)) in
       let word = h .word ∙ word-above w (fieldAt p) (omega arith) in
       let apart : (i : ℕ) → at ≤ i → i < at + length new → Outside p i =
-      λ i g j. record { header = λ f. inr (let e = l .low4 f in omega arith); message = inl (omega arith) } in
+      λ i g j. record { header = λ f. inr (let e = low .1 f in omega arith); message = inl (omega arith) } in
       by-cases (pseudo p)
       (λ t.
       let m = message-step k by (h .same) (h .bytes) (at - addressesAt p) at new
       (rw (h .total) (message-address k z s w (at - addressesAt p) t (omega arith) (l .to))) word (h .kept)
-      (message-some k (sameF k z 0) t) (message-some k (sameF k (h .same) 0) t) in
+      (message-some k (sameF k z 0) t) (message-some k (sameF k (h .same) 0) t) (c .quiet) in
       simp t
       (record {
+        accepts = c;
         same = m .same;
         bytes = m .bytes;
         header = m .header;
@@ -78,6 +69,7 @@ module _ (p : List ℕ) (by : Bytes p) (c : Accepted p) (at : ℕ) (new : List �
       (λ t.
       simp t
       (record {
+        accepts = c;
         same = h .same;
         bytes = h .bytes;
         header = h .kept;
@@ -124,7 +116,7 @@ module _ (p : List ℕ) (by : Bytes p) (c : Accepted p) (place : ℕ) where
       let z = same-self p in
       let fits = ltb-false (endOf p - bodyOf p) (place + length new) (r .0) in
       let w = put-wrote p at new (omega arith) in
-      let s = same-step z w (soft-body k at (length new) (omega arith)) in
+      let s = same-step z w (soft-message k at (length new) (omega arith)) in
       let blanks : (pseudo p ≡ false) → (blank p p ≡ false) × (blank p (put p at new) ≡ false) =
       λ t. or-false (blank p p) (blank p (put p at new))
       (simp (eq-eqb (protocolOf p) 1 (k .plain t), ne-eqb (length new) 0 (λ e. omega arith)) at (r .1 .0)) in
@@ -132,8 +124,9 @@ module _ (p : List ℕ) (by : Bytes p) (c : Accepted p) (place : ℕ) where
       let at1 : 0 < messageTotal (putWord (put p at new) (fieldAt p) 0) = by-cases (pseudo p) (λ t. message-some k (sameF k s 0) t) (λ t. unblank k s (blanks t .1) t) in
       let h = header-carry k z s (header-out k z s w (omega arith)) (word-below w 10 (omega arith)) (header-self p) in
       let m = message-step k by s (bytes-wrote w by bn) (at - startOf p) at new
-      (message-in k z s w (at - startOf p) (omega arith) (omega arith)) (word-below w (fieldAt p) (omega arith)) h at0 at1 in
+      (message-in k z s w (at - startOf p) (omega arith) (omega arith)) (word-below w (fieldAt p) (omega arith)) h at0 at1 (c .quiet) in
       record {
+        accepts = c;
         same = m .same;
         bytes = m .bytes;
         header = m .header;
@@ -149,6 +142,7 @@ module _ (p : List ℕ) (by : Bytes p) (c : Accepted p) (place : ℕ) where
       let k = c .facts in
       let fits = ltb-false (endOf p - bodyOf p) (place + 0) (r .0) in
       record {
+        accepts = c;
         same = same-self p;
         bytes = by;
         header = header-self p;

@@ -13,9 +13,8 @@ use Rattle.verdicts.proofs.Rules.{first-append, first-map, first-is, clear-both
 use Rattle.wire.specs.Outer.{four, six, versionOf, outerRules, fragmentRule}
 use Rattle.wire.specs.Inner.{silentOf, messageOf, messageRules, wholeRules, wholeOf, Holds}
 use Rattle.wire.specs.declared.Message.{Message}
-use Rattle.wire.specs.declared.Part.{Part}
 use Rattle.wire.specs.declared.Part.the-variants.{Refused, Whole}
-use Rattle.wire.proofs.Held.{parted, by-whole, after-whole, held-whole, held-facts}
+use Rattle.wire.proofs.Held.{parted, after-whole, held-whole, held-facts}
 use Rattle.judge.specs.Judge.{missingRule}
 use Rattle.edit.specs.Edits.{editRules, editableOf}
 
@@ -51,16 +50,10 @@ by-editable p rest r g =
     first-append (editRules p) rest r g ∙ sym (first-map (parted r (first rest r g)) (editRules p) Refused (Whole (messageOf p)))
 
 -- ---- what an answer that is no refusal tells
-no-part : (m : Message) (v : Verdict) → Whole m ≡ Refused v → ⊥
-no-part m v e = let z : _≡_ {A = ℕ} 0 1 = cc in omega arith
-
-message-is : (m k : Message) → Whole m ≡ Whole k → m ≡ k
-message-is m k e = cc
-
 pub held-editable : (p : List ℕ) (m : Message) → Whole m ≡ editableOf p → Holds p m
 unfolding editableOf editRules wholeRules
 held-editable p m e =
-    let q = first-is (editRules p) Refused (Whole (messageOf p)) (Whole m) (no-part m) e in
+    let q = first-is (editRules p) Refused (Whole (messageOf p)) (Whole m) (λ v n. let z : _≡_ {A = ℕ} 0 1 = cc in omega arith) e in
     let w = clear-both (wholeRules p) (missingRule p) (q .1) in
     let d = clear-both (outerRules p) (fragmentRule p ++ messageRules p) (w .0) in
-    record { is = message-is m (messageOf p) (q .0); outer = d .0; inner = d .1 .1 }
+    record { is = cc (q .0); outer = d .0; inner = d .1 .1 }

@@ -1,15 +1,11 @@
 -- A block with a part replaced and its field updated keeps its verdict, and a fresh field stays fresh.
 use mathlib.Core.Path.{_≡_, refl, sym, ap, _∙_}
-use Prim.Native.Nat.{ℕ, _+_, _-_, _<_}
+use Prim.Native.Nat.{ℕ, _+_, _<_}
 use native.Mathlib.Omega.{arith}
 use mathlib.Core.List.{List}
-use mathlib.Core.Bool.{true, false, _&&_}
+use mathlib.Core.Bool.{false}
 use lib.ListN.{length}
-use lib.Dec.{eqb}
-use borrow.Author.Tests.{ne-eqb}
-use Rattle.verdicts.proofs.Tests.{by-cases}
 use Rattle.sums.specs.Total.{weigh}
-use Rattle.sums.specs.Update.{updated}
 use Rattle.wire.specs.Bytes.{wordAt, part, putWord, odd, Bytes}
 use Rattle.wire.specs.Inner.{udp, fieldAt, silentOf}
 use Rattle.wire.proofs.Writes.{word-wrote, word-small}
@@ -19,7 +15,7 @@ use Rattle.judge.specs.Sums.{headerTotal, messageTotal, headerSums, messageSums
 use Rattle.mend.specs.Fresh.{sent, freshHeader}
 use Rattle.mend.proofs.Numbers.{pass-alike, sent-some, block-alike, block-fresh}
 use Rattle.mend.proofs.Blocks.{header-field, message-field, header-some}
-use Rattle.mend.proofs.Fresh.{FreshHeader, FreshMessage, HeaderKept, MessageKept, write10, writeF, same10, sameF, aside10, asideF, freshF}
+use Rattle.mend.proofs.Fresh.{HeaderKept, MessageKept, write10, writeF, same10, sameF, aside10, asideF, freshF}
 use Rattle.edit.specs.Update.{updatedAt}
 
 module _ {p q : List ℕ} (k : Facts p) (by : Bytes p) (a : Same p q) (at : ℕ) (new : List ℕ) where
@@ -37,7 +33,8 @@ module _ {p q : List ℕ} (k : Facts p) (by : Bytes p) (a : Same p q) (at : ℕ)
       let x = block-alike (headerTotal p) (headerTotal q) (headerTotal r) _ _ (wordAt p 10) v false (word-small p 10 by) t f' refl in
       record {
         sums = rw (four-same sr, pass-alike (headerTotal r) (headerTotal p) (header-some k sr) (header-some k z) x);
-        fresh = λ g y. w ∙ block-fresh (headerTotal p) (headerTotal q) (headerTotal r) (headerTotal (putWord p 10 0)) (headerTotal (putWord r 10 0)) _ _ (wordAt p 10) v false
+        fresh = λ g y.
+            w ∙ block-fresh (headerTotal p) (headerTotal q) (headerTotal r) (headerTotal (putWord p 10 0)) (headerTotal (putWord r 10 0)) _ _ (wordAt p 10) v false
             t f' refl (aside10 k z) (ap (λ n. headerTotal (putWord r 10 0) + n) (sym w) ∙ aside10 k sr) (header-some k (same10 k sr 0)) (g (sym (four-same sr) ∙ y));
       }
 
@@ -56,17 +53,17 @@ module _ {p q : List ℕ} (k : Facts p) (by : Bytes p) (a : Same p q) (at : ℕ)
       let w : wordAt r (fieldAt p) ≡ v = word-wrote v (writeF k a v) in
       let z = asideF k (same-self p) in
       let c : r0 + v ≡ messageTotal r = ap (λ n. r0 + n) (sym w) ∙ asideF k sr in
-      let some2 : 0 < r0 = there r0 v (messageTotal r) (wordAt p (fieldAt p)) (messageTotal q) (messageTotal (putWord q (fieldAt p) 0)) c f' (ap (λ n. messageTotal (putWord q (fieldAt p) 0) + n) (sym e) ∙ asideF k a) some1 in
+      let q0 = messageTotal (putWord q (fieldAt p) 0) in
+      let some2 : 0 < r0 =
+      there r0 v (messageTotal r) (wordAt p (fieldAt p)) (messageTotal q) q0 c f' (ap (λ n. q0 + n) (sym e) ∙ asideF k a) some1 in
       let x = block-alike (messageTotal p) (messageTotal q) (messageTotal r) _ _ (wordAt p (fieldAt p)) v (udp p) (word-small p (fieldAt p) by) t f' refl in
-      let y : (udp p && eqb v 0) ≡ false = by-cases (udp p)
-      (λ u. rw u (ne-eqb (sent true (updatedAt p (fieldAt p) pos at new)) 0 (sent-some (updatedAt p (fieldAt p) pos at new)))) (λ u. simp u) in
       record {
-        silent = rw (udp-same sr, field-same sr, w) y ∙ sym s;
+        silent = rw (udp-same sr, field-same sr, w) (sent-some (udp p) (updatedAt p (fieldAt p) pos at new)) ∙ sym s;
         sums = λ g. pass-alike (messageTotal r) (messageTotal p) (more r0 v (messageTotal r) c some2) (more _ _ (messageTotal p) z some0) x;
         fresh = λ g u.
             ap (wordAt r) (field-same sr) ∙ w
             ∙ block-fresh (messageTotal p) (messageTotal q) (messageTotal r) (messageTotal (putWord p (fieldAt p) 0)) r0 _ _ (wordAt p (fieldAt p)) v (udp p)
-            t f' refl z c some2 (g s ∙ freshF k (same-self p))
+            t f' refl z c some2 (g (simp s) ∙ freshF k (same-self p))
             ∙ sym (freshF k sr);
       }
     where

@@ -1,4 +1,4 @@
--- Laws of edits, and the theorems on sequences of them.
+-- What the code writes, what an edit keeps, the theorems on one edit and on any sequence of them, and examples.
 pub mod Common
 pub mod Made
 pub mod Sides
@@ -7,4 +7,6 @@ pub mod Blanks
 pub mod Done
 pub mod Steps
 pub mod Changes
+pub mod Single
 pub mod Sequences
+pub mod Examples

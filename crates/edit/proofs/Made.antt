@@ -1,10 +1,10 @@
 -- What the code writes is what the definitions of the edits say.
 use Prim.Native.Nat.{ℕ, _+_, _-_, _*_, _%_, _<_, _≤_}
-use mathlib.Core.Path.{_≡_, refl, sym, ap, ap₂, _∙_}
+use mathlib.Core.Path.{_≡_, sym, ap, ap₂, _∙_}
 use mathlib.Core.Bool.{Bool, true, false, _&&_}
 use mathlib.Core.List.{List, [], _∷_}
 use native.Mathlib.Omega.{arith}
-use lib.ListN.{length, take, drop, set}
+use lib.ListN.{length, set}
 use lib.Seq.{drop-cons}
 use lib.Dec.{eqb}
 use borrow.Author.Tests.{lt-ltb, le-ltb}
@@ -17,7 +17,7 @@ use Rattle.sums.specs.Update.{updated}
 use Rattle.sums.proofs.Folds.{fold-fixed}
 use Rattle.wire.specs.Bytes.{byteAt, wordAt, part, put, putWord, odd}
 use Rattle.wire.specs.Outer.{four, familyOf, startOf}
-use Rattle.wire.specs.Inner.{fieldAt, pseudo, udp, silentOf, Holds}
+use Rattle.wire.specs.Inner.{silentOf, Holds}
 use Rattle.wire.specs.Cover.{addressesAt}
 use Rattle.wire.specs.declared.Message.{Message}
 use Rattle.mend.specs.Fresh.{sent}
@@ -84,15 +84,15 @@ module _ {p : List ℕ} {m : Message} (h : Holds p m) (a : ℕ) (new : List ℕ)
   new-fold : fresh ≡ fold (weigh (odd (a - addressesAt p)) new)
   new-fold = en ∙ rw (even-places .1)
 
-  header-done : headerPut (m .family) (put p a new) w ≡ headerAfter p a new (put p a new)
-  header-done =
+  header-written : headerPut (m .family) (put p a new) w ≡ headerAfter p a new (put p a new)
+  header-written =
       header-made h (a - addressesAt p) a new (put p a new) w (even-places .0 ∙ sym (even-places .1))
       (ew ∙ ap₂ (λ (x y : ℕ). sent false (updated (wordAt p 10) x y)) old-fold new-fold)
 
   -- q has the address written, and r the header's field too
   module _ (q r : List ℕ) (es : q ≡ put p a new) (er : r ≡ headerPut (m .family) q w) where
     header-left : r ≡ headerAfter p a new (put p a new)
-    header-left = er ∙ ap (λ (l : List ℕ). headerPut (m .family) l w) es ∙ header-done
+    header-left = er ∙ ap (λ (l : List ℕ). headerPut (m .family) l w) es ∙ header-written
 
     pub address-plain : m .pseudo ≡ false → r ≡ addressLeft p a new
     address-plain t = header-left ∙ sym (simp (ap (λ (k : Message). k .pseudo) (sym (h .is)) ∙ t))

@@ -1,19 +1,20 @@
--- Each answer of the address edit's own rules.
+-- The two sides' places, and each answer of the address edit's own rules.
 use Prim.Native.Nat.{ℕ, _+_, _-_, _%_, _<_, _≤_}
-use mathlib.Core.Path.{_≡_, refl, sym, ap, _∙_}
+use mathlib.Core.Path.{_≡_, refl, sym}
 use mathlib.Core.Bool.{true, false}
 use mathlib.Core.List.{List}
 use native.Mathlib.Omega.{arith}
 use lib.ListN.{length}
 use lib.Dec.{eqb}
-use borrow.Author.Tests.{eq-eqb, ne-eqb, eqb-false}
+use borrow.Author.Tests.{eq-eqb, ne-eqb, eqb-true, eqb-false, not-false}
 use mathlib.Core.Logic.{_⊎_, inl, inr, ⊎-elim}
+use Rattle.verdicts.specs.Rules.{clear}
 use Rattle.verdicts.specs.declared.Verdict.{Verdict}
 use Rattle.verdicts.specs.declared.Verdict.the-variants.{Good, Place}
 use Rattle.verdicts.proofs.Tests.{by-cases}
 use Rattle.wire.specs.Outer.{four}
 use Rattle.wire.specs.Cover.{addressesAt, addressSize, addressesLength}
-use Rattle.edit.specs.Edits.{Addressed, addressLeft, addressIn}
+use Rattle.edit.specs.Edits.{Addressed, sideAt, addressRules, addressLeft, addressIn}
 
 module _ (p : List ℕ) where
   -- source and destination fill the addresses
@@ -31,6 +32,13 @@ module _ (p : List ℕ) where
       let t = two-sizes in
       let z : a + size - addressesAt p ≡ addressSize p = omega arith in
       record { from = omega arith; even = rw z (t .1); to = omega arith }
+
+  pub side-addressed : (side : ℕ) (new : List ℕ) → clear (addressRules p side new) → Addressed p (sideAt p side) (length new)
+  side-addressed side new c =
+      let e = eqb-true (length new) (addressSize p) (not-false (eqb (length new) (addressSize p)) (c .1 .0)) in
+      by-cases (eqb side 0)
+      (λ s. simp s (source-at (addressesAt p + 0) (addressSize p) (length new) (omega arith) refl e))
+      (λ s. simp s (destination-at (addressesAt p) (addressSize p) (length new) refl refl e))
 
   module _ (side : ℕ) (new : List ℕ) where
     pub other-side : 1 < side → _≡_ {A = Verdict × List ℕ} (Place, p) (addressIn p side new)

@@ -1,52 +1,51 @@
--- One edit: what it keeps.
+-- What an edit keeps: the steps that update the header's field and the message's, and the lifetime edit as a whole.
 use mathlib.Core.Path.{_≡_, refl, sym, _∙_}
 use mathlib.Core.Logic.{_⊎_, inl, ⊎-elim}
-use Prim.Native.Nat.{ℕ, zero, suc, _+_, _-_, _<_, _≤_}
+use Prim.Native.Nat.{ℕ, zero, suc, _+_, _<_, _≤_}
 use native.Mathlib.Omega.{arith}
-use mathlib.Core.List.{List, _++_}
+use mathlib.Core.List.{List}
 use mathlib.Core.Bool.{true, false, true≢false}
 use lib.ListN.{length}
+use borrow.Author.Tests.{eq-eqb}
 use Rattle.verdicts.specs.Rules.{clear}
 use Rattle.verdicts.proofs.Tests.{by-cases}
 use Rattle.verdicts.proofs.Rules.{clear-both}
 use Rattle.sums.specs.Total.{weigh}
 use Rattle.sums.specs.Update.{updated}
 use Rattle.wire.specs.Bytes.{byteAt, wordAt, part, put, putWord, odd, Bytes}
-use Rattle.wire.specs.Outer.{four, startOf, outerRules, fragmentRule}
-use Rattle.wire.specs.Inner.{udp, fieldAt, silentOf, wholeRules, messageRules}
+use Rattle.wire.specs.Outer.{four, versionOf, startOf}
+use Rattle.wire.specs.Inner.{udp, fieldAt, silentOf, wholeRules}
 use Rattle.wire.specs.Cover.{addressesAt}
 use Rattle.wire.proofs.Writes.{Wrote, put-wrote, bytes-wrote, bytes-word}
-use Rattle.wire.proofs.Facts.{Facts, facts}
-use Rattle.wire.proofs.Same.{Same, same-self, same-step, four-same, udp-same, field-same}
+use Rattle.wire.proofs.Facts.{Facts}
+use Rattle.wire.proofs.Same.{Same, same-self, same-step, four-same}
 use Rattle.judge.specs.Sums.{messageTotal, headerSums}
 use Rattle.judge.specs.Judge.{missingRule}
+use Rattle.judge.proofs.Accepts.{shaped}
 use Rattle.mend.specs.Fresh.{sent}
+use Rattle.mend.specs.Mend.{Outside}
 use Rattle.mend.proofs.Numbers.{sent-small}
 use Rattle.mend.proofs.Blocks.{header-in, header-out, message-out}
 use Rattle.mend.proofs.Places.{soft-header, word-below, word-above}
-use Rattle.mend.proofs.Fresh.{HeaderKept, MessageKept, write10, writeF, same10, sameF, header-carry, message-carry, message-self}
-use Rattle.mend.proofs.Accepted.{Accepted, quiet-four}
+use Rattle.mend.proofs.Fresh.{HeaderKept, MessageKept, write10, writeF, same10, sameF, header-carry, silent-carry, message-carry, message-self}
+use Rattle.mend.proofs.Accepted.{Accepted, accepted-whole}
 use Rattle.edit.specs.Update.{updatedAt, headerAfter, messageAfter}
 use Rattle.edit.specs.Edits.{editRules, lifeAt, lowered}
 use Rattle.edit.proofs.Done.{header-done, message-done}
-use Rattle.edit.specs.Runs.{Outside}
 
--- a packet that no rule of the edits' common order refuses
+-- a packet that no rule of the edits' common order refuses: a silent one is IPv4's
 pub accepted : (p : List ℕ) → clear (editRules p) → Accepted p
-unfolding editRules wholeRules
+unfolding editRules
 accepted p c =
     let w = clear-both (wholeRules p) (missingRule p) c in
-    let d = clear-both (outerRules p) (fragmentRule p ++ messageRules p) (w .0) in
-    record {
-      shape = d .0;
-      fragment = d .1 .0;
-      message = d .1 .1;
-      quiet = quiet-four p (d .0) (w .1 .0);
-      facts = facts p (d .0) (d .1 .1);
-    }
+    accepted-whole p (w .0)
+    (λ u. by-cases (four p)
+    (λ f. f)
+    (λ f. absurd (true≢false (simp (u, eq-eqb (versionOf p) 6 (shaped p (w .0) .six f)) at (w .1 .0)))))
 
 -- what an edit leaves: new bytes at a place, and beside them only the fields
 pub record Kept (p q : List ℕ) (at : ℕ) (new : List ℕ) : Type 0 where
+  pub accepts : Accepted p
   pub same : Same p q
   pub bytes : Bytes q
   pub header : HeaderKept p q
@@ -105,7 +104,7 @@ module _ {p q : List ℕ} (k : Facts p) (by : Bytes p) (a : Same p q) (bq : Byte
 module _ {p q : List ℕ} (k : Facts p) (by : Bytes p) (a : Same p q) (bq : Bytes q) (pos at : ℕ) (new : List ℕ)
     (total : messageTotal q + weigh (odd pos) (part p at (length new)) ≡ messageTotal p + weigh (odd pos) new)
     (word : wordAt q (fieldAt p) ≡ wordAt p (fieldAt p)) (h : HeaderKept p q)
-    (some0 : 0 < messageTotal (putWord p (fieldAt p) 0)) (some1 : 0 < messageTotal (putWord q (fieldAt p) 0)) where
+    (some0 : 0 < messageTotal (putWord p (fieldAt p) 0)) (some1 : 0 < messageTotal (putWord q (fieldAt p) 0)) (quiet : silentOf p ≡ true → four p ≡ true) where
   pub record MessageStep (r : List ℕ) : Type 0 where
     pub same : Same p r
     pub bytes : Bytes r
@@ -127,14 +126,17 @@ module _ {p q : List ℕ} (k : Facts p) (by : Bytes p) (a : Same p q) (bq : Byte
       }
 
   message-silent : silentOf p ≡ true → MessageStep q
-  unfolding silentOf
   message-silent u =
-      let z : silentOf q ≡ silentOf p = rw (udp-same a, field-same a, word) in
+      let z = silent-carry k (same-self p) a word in
       record {
         same = a;
         bytes = bq;
         header = h;
-        kept = record { silent = z; sums = λ g. absurd (true≢false (sym u ∙ g)); fresh = λ f g. absurd (true≢false (sym u ∙ sym z ∙ g)) };
+        kept = record {
+          silent = z;
+          sums = λ g. absurd (true≢false (sym u ∙ g));
+          fresh = λ f g. absurd (true≢false (simp (z ∙ u, four-same a ∙ quiet u) at g));
+        };
         others = λ i o. refl;
       }
 
@@ -161,10 +163,12 @@ module _ (p : List ℕ) (by : Bytes p) (c : Accepted p) where
       let b = bytes-wrote w by (lowered-bytes) in
       let h = header-step k by s b at (lowered p) w (omega arith) (λ f. inl (let e = l .3 f in omega arith)) in
       record {
+        accepts = c;
         same = h .same;
         bytes = h .bytes;
         header = h .kept;
-        message = message-carry k z (h .same) (h .total ∙ message-out k z s w (omega arith) (λ t. l .2)) (h .word ∙ word-above w (fieldAt p) (omega arith)) (message-self p);
+        message = message-carry k z (h .same) (h .total ∙ message-out k z s w (omega arith) (λ t. l .2))
+            (h .word ∙ word-above w (fieldAt p) (omega arith)) (message-self p);
         others = λ i o. h .others i (o .header);
         apart = λ i g j. record { header = λ f. inl (omega arith); message = inl (omega arith) };
         fits = omega arith;

@@ -1,14 +1,14 @@
 -- Sequences of edits, and what they write when no sum is updated.
-use Prim.Native.Nat.{ℕ, _+_, _<_}
+use Prim.Native.Nat.{ℕ, _+_, _<_, _≤_}
 use mathlib.Core.Path.{_≡_}
 use mathlib.Core.Logic.{_⊎_}
 use mathlib.Core.List.{List, [], _∷_, _++_}
-use mathlib.Core.Bool.{true}
+use lib.ListN.{length}
 use Rattle.verdicts.specs.Rules.{Rule, first}
 use Rattle.verdicts.specs.declared.Verdict.{Verdict}
+use Rattle.verdicts.specs.declared.Verdict.the-variants.{Good}
 use Rattle.wire.specs.Bytes.{Bytes, put}
-use Rattle.wire.specs.Outer.{four}
-use Rattle.wire.specs.Inner.{fieldAt, bodyOf}
+use Rattle.wire.specs.Inner.{bodyOf}
 use Rattle.edit.specs.Edits.{editRules, lifeAt, lowered, lifetimeRules, lifetimeOf, sideAt, addressRules, addressOf, stretchRules, stretchOf}
 
 pub data Edit : Type 0 where
@@ -64,7 +64,8 @@ abbrev pub Fits : List Edit → Type 0
 Fits [] = Unit
 Fits (e ∷ es) = Fit e × Fits es
 
--- i is no byte of a sum field
-pub record Outside (p : List ℕ) (i : ℕ) : Type 0 where
-  pub header : four p ≡ true → (i < 10) ⊎ (11 < i)
-  pub message : (i < fieldAt p) ⊎ (fieldAt p + 1 < i)
+-- no edit that is accepted on the way writes byte i
+abbrev pub Untouched : List Edit → List ℕ → ℕ → Type 0
+Untouched [] p i = Unit
+Untouched (e ∷ es) p i =
+    (apply e p .0 ≡ Good → (i < placeOf e p) ⊎ (placeOf e p + length (newOf e p) ≤ i)) × Untouched es (apply e p .1) i

@@ -52,8 +52,22 @@ pub fn set_address(packet: &mut [u8], side: u32, address: &[u8]) -> Verdict
         Part::Whole(m) => {
             let family = m.family;
             match family {
-                Family::Four => set_side(packet, m, side, address, wire::ADDRESSES_4, 4),
-                Family::Six => set_side(packet, m, side, address, wire::ADDRESSES_6, 16),
+                Family::Four => set_side(
+                    packet,
+                    m,
+                    side,
+                    address,
+                    wire::ADDRESSES_4,
+                    wire::ADDRESS_4,
+                ),
+                Family::Six => set_side(
+                    packet,
+                    m,
+                    side,
+                    address,
+                    wire::ADDRESSES_6,
+                    wire::ADDRESS_6,
+                ),
             }
         }
     }

@@ -73,7 +73,7 @@ module _ {p q r : List ℕ} {at : ℕ} {new : List ℕ} (k : Facts p) (a : Same 
       let y = address-out (λ t. simp t (part-before w false (addressesAt p) (addressesLength p) (omega arith))) in
       rw (message-tally k a, message-tally k b) (omega arith)
 
--- the fields
+-- a word written: the header's field, and a word of the message at an even distance from its start, as its field is
 module _ {p q r : List ℕ} (v : ℕ) (k : Facts p) (a : Same p q) (b : Same p r) where
   pub header-field : Wrote q r 10 (v / 256 ∷ v % 256 ∷ []) → headerTotal r + wordAt q 10 ≡ headerTotal q + v
   header-field w =
@@ -81,12 +81,16 @@ module _ {p q r : List ℕ} (v : ℕ) (k : Facts p) (a : Same p q) (b : Same p r
       let x = header-in k a b w (omega arith) in
       omega (arith, word-weigh q 10 10 refl (omega arith), new-weigh v 10 refl)
 
-  pub message-field : Wrote q r (fieldAt p) (v / 256 ∷ v % 256 ∷ []) → messageTotal r + wordAt q (fieldAt p) ≡ messageTotal q + v
-  message-field w =
+  pub message-word : (at : ℕ) → startOf p ≤ at → (at - startOf p) % 2 ≡ 0 → at + 2 ≤ endOf p → Wrote q r at (v / 256 ∷ v % 256 ∷ [])
+      → messageTotal r + wordAt q at ≡ messageTotal q + v
+  message-word at h e g w =
       let l = a .long in
-      let pos = fieldAt p - startOf p in
+      let pos = at - startOf p in
       let x = message-in k a b w pos (omega arith) (omega arith) in
-      omega (arith, word-weigh q (fieldAt p) pos (k .even) (omega arith), new-weigh v pos (k .even))
+      omega (arith, word-weigh q at pos e (omega arith), new-weigh v pos e)
+
+  pub message-field : Wrote q r (fieldAt p) (v / 256 ∷ v % 256 ∷ []) → messageTotal r + wordAt q (fieldAt p) ≡ messageTotal q + v
+  message-field = message-word (fieldAt p) (omega arith) (k .even) (omega arith)
 
 -- neither total is 0, but for a message without a pseudo-header
 module _ {p q : List ℕ} (k : Facts p) (a : Same p q) where

@@ -1,10 +1,10 @@
 -- Fields that stand fresh, and what keeps the header's and the message's sums as they were.
-use mathlib.Core.Path.{_≡_, refl, sym, ap, _∙_}
+use mathlib.Core.Path.{_≡_, refl, sym, ap, ap₂, _∙_}
 use mathlib.Core.Logic.{inr}
-use Prim.Native.Nat.{ℕ, _+_, _-_, _/_, _%_}
+use Prim.Native.Nat.{ℕ, _+_, _/_, _%_}
 use native.Mathlib.Omega.{arith}
 use mathlib.Core.List.{List, [], _∷_}
-use mathlib.Core.Bool.{true, false}
+use mathlib.Core.Bool.{false, _&&_}
 use Rattle.verdicts.proofs.Tests.{by-cases}
 use Rattle.sums.specs.Fold.{fold, fieldOf}
 use Rattle.wire.specs.Bytes.{wordAt, putWord}
@@ -15,26 +15,20 @@ use Rattle.wire.proofs.Facts.{Facts}
 use Rattle.wire.proofs.Same.{Same, same-step, four-same, udp-same, field-same, same-self}
 use Rattle.judge.specs.Sums.{headerTotal, messageTotal, headerSums, messageSums}
 use Rattle.mend.specs.Mend.{mendedHeader}
-use Rattle.mend.specs.Fresh.{sent, freshHeader, freshMessage}
+use Rattle.mend.specs.Fresh.{sent, freshHeader, freshMessage, HeaderFresh, MessageFresh}
 use Rattle.mend.proofs.Blocks.{header-field, message-field}
-use Rattle.mend.proofs.Places.{soft-header, soft-field}
-
-abbrev pub FreshHeader : List ℕ → Type 0
-FreshHeader p = four p ≡ true → wordAt p 10 ≡ freshHeader p
-
-abbrev pub FreshMessage : List ℕ → Type 0
-FreshMessage p = silentOf p ≡ false → wordAt p (fieldAt p) ≡ freshMessage p
+use Rattle.mend.proofs.Places.{soft-header, soft-message}
 
 pub record HeaderKept (p q : List ℕ) : Type 0 where
   pub sums : headerSums q ≡ headerSums p
-  pub fresh : FreshHeader p → FreshHeader q
+  pub fresh : HeaderFresh p → HeaderFresh q
 
 pub record MessageKept (p q : List ℕ) : Type 0 where
   pub silent : silentOf q ≡ silentOf p
   pub sums : silentOf p ≡ false → messageSums q ≡ messageSums p
-  pub fresh : FreshMessage p → FreshMessage q
+  pub fresh : MessageFresh p → MessageFresh q
 
--- ---- a field read as 0000
+-- ---- a word written over a field; a field read as 0000
 module _ {p q : List ℕ} (k : Facts p) (a : Same p q) where
   pub write10 : (v : ℕ) → Wrote q (putWord q 10 v) 10 (v / 256 ∷ v % 256 ∷ [])
   write10 v = put-wrote q 10 (v / 256 ∷ v % 256 ∷ []) (let l = a .long in omega arith)
@@ -46,7 +40,7 @@ module _ {p q : List ℕ} (k : Facts p) (a : Same p q) where
   same10 v = same-step a (write10 v) (soft-header k 10 2 (omega arith) (omega arith) (λ f. (omega arith, inr (omega arith))))
 
   pub sameF : (v : ℕ) → Same p (putWord q (fieldAt p) v)
-  sameF v = same-step a (writeF v) (soft-field k)
+  sameF v = same-step a (writeF v) (soft-message k (fieldAt p) 2 (omega arith))
 
   pub aside10 : headerTotal (putWord q 10 0) + wordAt q 10 ≡ headerTotal q
   aside10 = header-field 0 k a (same10 0) (write10 0) ∙ omega arith
@@ -60,28 +54,38 @@ module _ {p q : List ℕ} (k : Facts p) (a : Same p q) where
 
 -- ---- what decides: the totals, and the fields
 module _ {p q r : List ℕ} (k : Facts p) (a : Same p q) (b : Same p r) where
-  pub header-carry : headerTotal r ≡ headerTotal q → wordAt r 10 ≡ wordAt q 10 → HeaderKept p q → HeaderKept p r
-  unfolding headerSums freshHeader
-  header-carry t e h =
-      let x : headerTotal (putWord r 10 0) ≡ headerTotal (putWord q 10 0) = omega (arith, aside10 k a, aside10 k b) in
-      let y : headerSums r ≡ headerSums q = rw (four-same b, t, four-same a) in
-      record {
-        sums = y ∙ h .sums;
-        fresh = λ g f. e ∙ h .fresh g (four-same a ∙ sym (four-same b) ∙ f) ∙ rw x;
-      }
+  module _ (t : headerTotal r ≡ headerTotal q) (e : wordAt r 10 ≡ wordAt q 10) where
+    pub header-fresh : HeaderFresh q → HeaderFresh r
+    unfolding freshHeader
+    header-fresh h f =
+        let x : headerTotal (putWord r 10 0) ≡ headerTotal (putWord q 10 0) = omega (arith, aside10 k a, aside10 k b) in
+        e ∙ h (four-same a ∙ sym (four-same b) ∙ f) ∙ ap (λ t. fieldOf (fold t)) (sym x)
 
-  pub message-carry : messageTotal r ≡ messageTotal q → wordAt r (fieldAt p) ≡ wordAt q (fieldAt p) → MessageKept p q → MessageKept p r
-  unfolding messageSums silentOf
-  message-carry t e h =
-      let x : messageTotal (putWord r (fieldAt p) 0) ≡ messageTotal (putWord q (fieldAt p) 0) = omega (arith, asideF k a, asideF k b) in
-      let z : silentOf r ≡ silentOf q = rw (udp-same b, udp-same a, field-same a, field-same b, e) in
-      record {
-        silent = z ∙ h .silent;
-        sums = λ s. rw t (h .sums s);
-        fresh = λ g s.
-            ap (wordAt r) (field-same b) ∙ e ∙ ap (wordAt q) (sym (field-same a)) ∙ h .fresh g (sym z ∙ s)
-            ∙ freshF k a ∙ rw (sym x) (sym (freshF k b));
-      }
+    pub header-carry : HeaderKept p q → HeaderKept p r
+    unfolding headerSums
+    header-carry h =
+        let y : headerSums r ≡ headerSums q = rw (four-same b, t, four-same a) in
+        record { sums = y ∙ h .sums; fresh = λ g. header-fresh (h .fresh g) }
+
+  pub silent-carry : wordAt r (fieldAt p) ≡ wordAt q (fieldAt p) → silentOf r ≡ silentOf q
+  unfolding silentOf
+  silent-carry e = rw (udp-same b, udp-same a, field-same a, field-same b, e)
+
+  module _ (t : messageTotal r ≡ messageTotal q) (e : wordAt r (fieldAt p) ≡ wordAt q (fieldAt p)) where
+    pub fresh-carry : freshMessage r ≡ freshMessage q
+    fresh-carry =
+        let x : messageTotal (putWord r (fieldAt p) 0) ≡ messageTotal (putWord q (fieldAt p) 0) = omega (arith, asideF k a, asideF k b) in
+        freshF k b ∙ rw x (sym (freshF k a))
+
+    pub message-carry : MessageKept p q → MessageKept p r
+    unfolding messageSums
+    message-carry h =
+        let z : (silentOf r && four r) ≡ (silentOf q && four q) = ap₂ _&&_ (silent-carry e) (four-same b ∙ sym (four-same a)) in
+        record {
+          silent = silent-carry e ∙ h .silent;
+          sums = λ s. rw t (h .sums s);
+          fresh = λ g s. ap (wordAt r) (field-same b) ∙ e ∙ ap (wordAt q) (sym (field-same a)) ∙ h .fresh g (sym z ∙ s) ∙ sym fresh-carry;
+        }
 
 pub header-self : (p : List ℕ) → HeaderKept p p
 header-self p = record { sums = refl; fresh = λ g. g }

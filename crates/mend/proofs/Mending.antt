@@ -1,180 +1,242 @@
--- A mended packet is judged 0, or 1 where a UDP field of 0000 was kept, and mending it again changes nothing.
-use mathlib.Core.Path.{_≡_, refl, sym, ap, subst, _∙_}
-use Prim.Native.Nat.{ℕ, _-_}
+-- The theorems of mending: what it answers, what it changes, what the judge says of it, and that a good packet stands.
+use mathlib.Core.Path.{_≡_, refl, sym, ap, _∙_}
+use mathlib.Core.Logic.{_↔_, _⊎_, inl, inr, ⊎-elim}
+use Prim.Native.Nat.{ℕ, suc, _+_, _/_, _%_, _<_}
 use native.Mathlib.Omega.{arith}
-use mathlib.Core.List.{List, _∷_}
-use mathlib.Core.Bool.{Bool, true, false, not, _&&_, true≢false}
-use lib.Dec.{eqb}
-use borrow.Author.Tests.{ne-eqb, eqb-true}
+use native.Mathlib.Decide.{ℕ-discrete, decLt}
+use native.Mathlib.Numerals.{add-one}
+use mathlib.Core.List.{List}
+use mathlib.Core.Bool.{true, false, _&&_, true≢false}
+use lib.ListN.{length}
+use lib.Seq.{set-getD}
+use borrow.Author.Tests.{eqb-false}
 use Rattle.verdicts.specs.Choice.{if_then_else_}
-use Rattle.verdicts.specs.Rules.{_⇒_, first, clear}
+use Rattle.verdicts.specs.Rules.{clear, Decides}
 use Rattle.verdicts.specs.declared.Verdict.{Verdict}
-use Rattle.verdicts.specs.declared.Verdict.the-variants.{Good, Unsummed, HeaderSum, Fragment}
-use Rattle.verdicts.proofs.Tests.{by-cases}
-use Rattle.verdicts.proofs.Rules.{clear-both, clear-first, first-either}
-use Rattle.sums.specs.Fold.{fold, fieldOf}
-use Rattle.wire.specs.Bytes.{wordAt, putWord, Bytes}
-use Rattle.wire.specs.Outer.{versionOf, four, six, fragmentOf, outerRules}
+use Rattle.verdicts.specs.declared.Verdict.the-variants.{Good, Unsummed}
+use Rattle.verdicts.proofs.Tests.{by-cases, and-true}
+use Rattle.verdicts.proofs.Rules.{first-either}
+use Rattle.sums.specs.Fold.{passes}
+use Rattle.wire.specs.Bytes.{byteAt, wordAt, put, putWord, Bytes}
+use Rattle.wire.specs.Outer.{four, outerRules}
 use Rattle.wire.specs.Inner.{messageRules, udp, fieldAt, silentOf, wholeRules}
-use Rattle.wire.proofs.Writes.{bytes-wrote, bytes-word, word-wrote}
-use Rattle.wire.proofs.Facts.{Facts, facts}
-use Rattle.wire.proofs.Same.{Same, same-self, four-same, udp-same, field-same, outer-same, message-same, fragment-same}
+use Rattle.wire.proofs.Writes.{word-small}
+use Rattle.wire.proofs.Same.{same-self, four-same, whole-same}
 use Rattle.judge.specs.Sums.{headerTotal, messageTotal, headerSums, messageSums}
-use Rattle.judge.specs.Judge.{sumRules, judgeOf}
-use Rattle.mend.specs.Fresh.{sent, freshHeader, freshMessage}
-use Rattle.mend.specs.Mend.{mendedHeader, mendedMessage, mendOf}
-use Rattle.mend.proofs.Numbers.{sent-some, sent-small, fresh-passes}
-use Rattle.mend.proofs.Blocks.{header-out, header-field, message-field}
-use Rattle.mend.proofs.Places.{word-below}
-use Rattle.mend.proofs.Fresh.{FreshHeader, FreshMessage, write10, writeF, same10, sameF, aside10, asideF, freshF, header-carry, header-self}
-use Rattle.mend.proofs.Accepted.{Accepted, judge-as, self, fresh-mended}
+use Rattle.judge.specs.Judge.{judgeOf}
+use Rattle.judge.proofs.Answers.{good, unsummed, sums4, sums6}
+use Rattle.judge.proofs.Accepts.{shaped, accepted, accepting, verdict-good, verdict-unsummed}
+use Rattle.mend.specs.Fresh.{sent, freshHeader, freshMessage, HeaderFresh, MessageFresh}
+use Rattle.mend.specs.Mend.{mendedHeader, mendedMessage, mendOf, Outside, Full}
+use Rattle.mend.proofs.Calls.{call-exactly, call-refused, call-clear, call-done, call-either}
+use Rattle.mend.proofs.Numbers.{sent-passes, passing-fresh}
+use Rattle.mend.proofs.Fresh.{aside10, asideF, freshF}
+use Rattle.mend.proofs.Accepted.{whole-facts}
+use Rattle.mend.proofs.Mended.{Mended, both-set}
 
--- a packet whose fields stand fresh is good, or unsummed
-module _ (p : List ℕ) (c : Accepted p) where
-  header-good : FreshHeader p → headerSums p ≡ true
-  unfolding headerSums freshHeader sent
-  header-good h =
-      let z = same-self p in
-      let t = headerTotal (putWord p 10 0) in
-      by-cases (four p)
-      (λ f. simp f (rw (sym (aside10 (c .facts) z), h f) (fresh-passes t false)))
-      (λ f. simp f)
-
-  message-good : FreshMessage p → silentOf p ≡ false → messageSums p ≡ true
-  unfolding messageSums
-  message-good m u =
-      let z = same-self p in
-      let t = messageTotal (putWord p (fieldAt p) 0) in
-      rw (sym (asideF (c .facts) z), m u, freshF (c .facts) z) (fresh-passes t (udp p))
-
-  sums-good : FreshMessage p → first (sumRules p) self Good ≡ (if silentOf p then Unsummed else Good)
-  unfolding sumRules
-  sums-good m =
-      by-cases (silentOf p)
-      (λ u. let f = c .quiet u in simp (u, f, four-not-six f))
-      (λ u. simp (u, message-good m u))
-    where
-      four-not-six : four p ≡ true → six p ≡ false
-      four-not-six f = ne-eqb (versionOf p) 6 (λ e. omega (arith, eqb-true (versionOf p) 4 f))
-
-  pub fresh-judged : FreshHeader p → FreshMessage p → judgeOf p ≡ (if silentOf p then Unsummed else Good)
-  fresh-judged h m =
-      judge-as p
-      ∙ clear-first (outerRules p) self _ (c .shape)
-      ∙ clear-first ((not (headerSums p) ⇒ HeaderSum) ∷ (fragmentOf p ⇒ Fragment) ∷ messageRules p) self _ (ap not (header-good h), (c .fragment, c .message))
-      ∙ sums-good m
-
--- ---- the header's field set
-record HeaderSet (p q : List ℕ) : Type 0 where
-  pub same : Same p q
-  pub bytes : Bytes q
-  pub fresh : FreshHeader q
-
-header-set : (p : List ℕ) → Facts p → Bytes p → HeaderSet p (mendedHeader p)
-unfolding mendedHeader freshHeader
-header-set p k b =
-    let z = same-self p in
-    let v = freshHeader p in
-    let w = write10 k z v in
-    let s = same10 k z v in
-    let q = putWord p 10 v in
-    let x : headerTotal (putWord q 10 0) ≡ headerTotal (putWord p 10 0) =
-    omega (arith, aside10 k s, aside10 k z, header-field v k z s w, word-wrote v w) in
-    by-cases (four p)
-    (λ f. simp f (record { same = s; bytes = bytes-wrote w b (bytes-word v (omega arith)); fresh = λ g. word-wrote v w ∙ rw x }))
-    (λ f. simp f (record { same = z; bytes = b; fresh = λ g. absurd (true≢false (sym g ∙ f)) }))
-
--- ---- and the message's
-record MessageSet (p q : List ℕ) : Type 0 where
-  pub same : Same p q
-  pub bytes : Bytes q
-  pub header : FreshHeader p → FreshHeader q
-  pub fresh : FreshMessage q
-  pub quiet : silentOf q ≡ true → four q ≡ true
-  pub silent : silentOf q ≡ (silentOf p && four p)
-
-message-set : (p : List ℕ) → Facts p → Bytes p → MessageSet p (mendedMessage p)
-unfolding mendedMessage silentOf
-message-set p k b =
-    let z = same-self p in
-    let t = fieldOf (fold (messageTotal (putWord p (fieldAt p) 0))) in
-    let v = freshMessage p in
-    let e : v ≡ sent (udp p) t = freshF k z in
-    let w = writeF k z v in
-    let s = sameF k z v in
-    let q = putWord p (fieldAt p) v in
-    let x : messageTotal (putWord q (fieldAt p) 0) ≡ messageTotal (putWord p (fieldAt p) 0) =
-    omega (arith, asideF k s, asideF k z, message-field v k z s w, word-wrote v w) in
-    let y : (udp p && eqb v 0) ≡ false = by-cases (udp p) (λ u. rw (e, u) (ne-eqb (sent true t) 0 (sent-some t))) (λ u. simp u) in
-    let silent : silentOf q ≡ false = rw (udp-same s, field-same s, word-wrote v w) y in
-    by-cases (silentOf p && four p)
-    (λ u.
-    let g = and-both (silentOf p) (four p) u in
-    simp u
-    (record {
-      same = z;
-      bytes = b;
-      header = λ h. h;
-      fresh = λ n. absurd (true≢false (sym (g .0) ∙ n));
-      quiet = λ n. g .1;
-      silent = g .0 ∙ sym u;
-    }))
-    (λ u.
-    simp u
-    (record {
-      same = s;
-      bytes = bytes-wrote w b (bytes-word v (rw e (sent-small (udp p) t (omega arith))));
-      header = header-carry k z s (header-out k z s w (omega arith)) (word-below w 10 (omega arith)) (header-self p) .fresh;
-      fresh = λ n. ap (wordAt q) (field-same s) ∙ word-wrote v w ∙ e ∙ sym (freshF k s ∙ rw x);
-      quiet = λ n. absurd (true≢false (sym n ∙ silent));
-      silent = silent ∙ sym u;
-    }))
-  where
-    and-both : (a b : Bool) → (a && b) ≡ true → (a ≡ true) × (b ≡ true)
-    and-both true b e = (refl, e)
-    and-both false b e = absurd (true≢false (sym e))
-
--- ---- together
-module _ (p : List ℕ) (by : Bytes p) (c : clear (wholeRules p)) where
-  parts : clear (outerRules p) × (fragmentOf p ≡ false) × clear (messageRules p)
-  unfolding wholeRules
-  parts = let d = clear-both (outerRules p) ((fragmentOf p ⇒ Fragment) ∷ messageRules p) c in (d .0, d .1 .0, d .1 .1)
-
-  k : Facts p
-  k = facts p (parts .0) (parts .2)
-
-  h : HeaderSet p (mendedHeader p)
-  h = header-set p k by
-
-  kq : Facts (mendedHeader p)
-  kq = facts (mendedHeader p) (rw (outer-same (h .same)) (parts .0)) (rw (message-same (h .same)) (parts .2))
-
-  m : MessageSet (mendedHeader p) (mendedMessage (mendedHeader p))
-  m = message-set (mendedHeader p) kq (h .bytes)
-
-  done : mendOf p ≡ (Good, mendedMessage (mendedHeader p))
+-- ---- what it answers, and what it changes
+module _ (p : List ℕ) where
+  -- each refusal comes exactly in its case, in the judge's order
+  pub mend-exactly : (v : Verdict) → (mendOf p .0 ≡ v) ↔ Decides (wholeRules p) v
   unfolding mendOf
-  done = clear-first {A = Verdict × List ℕ} (wholeRules p) (λ v. (v, p)) (Good, mendedMessage (mendedHeader p)) c
+  mend-exactly v = call-exactly (wholeRules p) p (mendedMessage (mendedHeader p)) v
 
-  ready : Accepted (mendedMessage (mendedHeader p))
-  ready =
-      let a : clear (outerRules (mendedMessage (mendedHeader p))) = rw (outer-same (m .same), outer-same (h .same)) (parts .0) in
-      let b : clear (messageRules (mendedMessage (mendedHeader p))) = rw (message-same (m .same), message-same (h .same)) (parts .2) in
-      record { shape = a; fragment = fragment-same (m .same) ∙ fragment-same (h .same) ∙ parts .1; message = b; quiet = m .quiet; facts = facts _ a b }
+  -- an answer other than good leaves the packet as it was
+  pub mend-refused : (mendOf p .0 ≡ Good → ⊥) → mendOf p .1 ≡ p
+  unfolding mendOf
+  mend-refused n = call-refused (wholeRules p) p (mendedMessage (mendedHeader p)) n
 
-  pub mended-judged : judgeOf (mendOf p .1) ≡ (if silentOf (mendedHeader p) && four p then Unsummed else Good)
-  mended-judged =
-      rw done
-      (fresh-judged (mendedMessage (mendedHeader p)) ready (m .header (h .fresh)) (m .fresh)
-      ∙ rw (m .silent, four-same (h .same)))
+  -- nothing but the two fields ever changes
+  pub mend-only-fields : (i : ℕ) → Outside p i → byteAt (mendOf p .1) i ≡ byteAt p i
+  unfolding mendOf
+  mend-only-fields i o =
+      call-either (wholeRules p) p (mendedMessage (mendedHeader p)) (λ q. byteAt q i ≡ byteAt p i) refl
+      (λ c. both-set p c .others i o)
 
-  twice : mendOf (mendOf p .1) .1 ≡ mendOf p .1
-  twice = rw done (fresh-mended (mendedMessage (mendedHeader p)) (m .bytes) ready (m .header (h .fresh)) (m .fresh))
+  pub mend-length : length (mendOf p .1) ≡ length p
+  unfolding mendOf
+  mend-length =
+      call-either (wholeRules p) p (mendedMessage (mendedHeader p)) (λ q. length q ≡ length p) refl
+      (λ c. both-set p c .same .long)
 
-pub mended-twice : (p : List ℕ) → Bytes p → mendOf (mendOf p .1) .1 ≡ mendOf p .1
+  done : clear (wholeRules p) → mendOf p ≡ (Good, mendedMessage (mendedHeader p))
+  unfolding mendOf
+  done c = call-done (wholeRules p) p (mendedMessage (mendedHeader p)) c
+
+  pub whole-good : clear (wholeRules p) → mendOf p .0 ≡ Good
+  whole-good c = ap (λ (x : Verdict × List ℕ). x .0) (done c)
+
+  mended-clear : mendOf p .0 ≡ Good → clear (wholeRules p)
+  unfolding mendOf wholeRules outerRules messageRules
+  mended-clear g = call-clear (wholeRules p) p (mendedMessage (mendedHeader p)) (omega arith) g
+
+  mended : clear (wholeRules p) → Mended p (mendOf p .1)
+  mended c = rw (done c) (both-set p c)
+
+-- ---- what the judge says of it
+module _ (p : List ℕ) (c : clear (wholeRules p)) (h : HeaderFresh p) (m : MessageFresh p) (quiet : silentOf p ≡ true → four p ≡ true) where
+  header-good : headerSums p ≡ true
+  unfolding freshHeader sent
+  header-good =
+      by-cases (four p)
+      (λ f. sym (sums4 p f) ∙ rw (sym (aside10 (whole-facts p c) (same-self p)), h f) (sent-passes (headerTotal (putWord p 10 0)) false))
+      (λ f. sym (sums6 p f))
+
+  message-good : silentOf p ≡ false → messageSums p ≡ true
+  unfolding messageSums
+  message-good u =
+      let k = whole-facts p c in
+      let z = same-self p in
+      rw (sym (asideF k z), m (simp u), freshF k z) (sent-passes (messageTotal (putWord p (fieldAt p) 0)) (udp p))
+
+  fresh-judged : judgeOf p ≡ (if silentOf p then Unsummed else Good)
+  fresh-judged =
+      sym (accepting p c header-good)
+      ∙ by-cases (silentOf p)
+      (λ u. simp u (sym (unsummed p u (quiet u))))
+      (λ u. simp u (sym (good p u (message-good u))))
+
+-- afterwards the judge says good, or unsummed where UDP's 0000 over IPv4 was kept
+pub mended-judged : (p : List ℕ) → mendOf p .0 ≡ Good → judgeOf (mendOf p .1) ≡ (if silentOf p && four p then Unsummed else Good)
+mended-judged p g =
+    let c = mended-clear p g in
+    let m = mended p c in
+    fresh-judged (mendOf p .1) (rw (whole-same (m .same)) c) (m .fresh .0) (m .fresh .1)
+    (λ u. four-same (m .same) ∙ and-true (silentOf p) (four p) (sym (m .silent) ∙ u) .1)
+    ∙ ap (λ b. if b then Unsummed else Good) (m .silent)
+
+-- ---- where it changes nothing
+-- a word written where it stands
+word-put : (p : List ℕ) (f : ℕ) → Bytes p → putWord p f (wordAt p f) ≡ p
+unfolding put
+word-put p f b =
+    let x : wordAt p f / 256 ≡ byteAt p f = omega (arith, b (f + 1)) in
+    let y : wordAt p f % 256 ≡ byteAt p (f + 1) = omega (arith, b (f + 1)) in
+    rw (x, y, set-getD p f 0, add-one f) (set-getD p (suc f) 0)
+
+fresh-stands : (p : List ℕ) → Bytes p → HeaderFresh p → MessageFresh p → mendedMessage (mendedHeader p) ≡ p
+unfolding mendedHeader mendedMessage
+fresh-stands p b h m =
+    let e : mendedHeader p ≡ p = by-cases (four p) (λ f. simp f (rw (sym (h f)) (word-put p 10 b))) (λ f. simp f) in
+    ap mendedMessage e
+    ∙ by-cases (silentOf p && four p)
+    (λ u. simp u)
+    (λ u. simp u (rw (sym (m u)) (word-put p (fieldAt p) b)))
+
+-- to leave a packet as it is means that its fields in use stand fresh
+pub mend-fresh : (p : List ℕ) → Bytes p → mendOf p .0 ≡ Good → (mendOf p .1 ≡ p) ↔ (HeaderFresh p × MessageFresh p)
+mend-fresh p b g =
+    let c = mended-clear p g in
+    let m = mended p c in (
+      λ e. (λ f. ap (λ q. wordAt q 10) (sym e) ∙ m .header f, λ u. ap (λ q. wordAt q (fieldAt p)) (sym e) ∙ m .message u),
+      λ f. ap (λ (x : Verdict × List ℕ). x .1) (done p c) ∙ fresh-stands p b (f .0) (f .1),
+    )
+
+-- mending twice is mending once, in the answer and in every byte
+pub mended-twice : (p : List ℕ) → Bytes p → mendOf (mendOf p .1) ≡ mendOf p
 unfolding mendOf
-mended-twice p by =
-    first-either {A = Verdict × List ℕ} (λ x. mendOf p ≡ x → mendOf (x .1) .1 ≡ x .1) (wholeRules p) (λ v. (v, p)) (Good, mendedMessage (mendedHeader p))
-    (λ v e. ap (λ (x : Verdict × List ℕ). x .1) e)
-    (λ c e. subst (λ (x : Verdict × List ℕ). mendOf (x .1) .1 ≡ x .1) e (twice p by c))
+mended-twice p b =
+    first-either {A = Verdict × List ℕ} (λ x. mendOf p ≡ x → mendOf (x .1) ≡ x) (wholeRules p) (λ v. (v, p)) (Good, mendedMessage (mendedHeader p))
+    (λ v e. e)
+    (λ c e.
+    let m = both-set p c in
+    let q = mendedMessage (mendedHeader p) in
+    done q (rw (whole-same (m .same)) c) ∙ ap (λ r. (Good, r)) (fresh-stands q (m .bytes b) (m .fresh .0) (m .fresh .1)))
     refl
+
+-- ---- a good packet
+-- every i is a byte of the header's field, of the message's, or of neither
+where-stands : (p : List ℕ) (i : ℕ) → Outside p i ⊎ ((four p ≡ true) × ((i ≡ 10) ⊎ (i ≡ 11))) ⊎ ((i ≡ fieldAt p) ⊎ (i ≡ fieldAt p + 1))
+where-stands p i =
+    elim (ℕ-discrete i (fieldAt p)) [
+      | yes e ↦ inr (inr (inl e))
+      | no e ↦ elim (ℕ-discrete i (fieldAt p + 1)) [
+        | yes g ↦ inr (inr (inr g))
+        | no g ↦
+            let m : (i < fieldAt p) ⊎ (fieldAt p + 1 < i) = elim (decLt i (fieldAt p)) [ yes l ↦ inl l | no l ↦ inr (omega arith) ] in
+            by-cases (four p)
+            (λ f. elim (ℕ-discrete i 10) [
+              | yes h ↦ inr (inl (f, inl h))
+              | no h ↦ elim (ℕ-discrete i 11) [
+                | yes j ↦ inr (inl (f, inr j))
+                | no j ↦ inl (record { header = λ u. elim (decLt i 10) [ yes l ↦ inl l | no l ↦ inr (omega arith) ]; message = m })
+              ]
+            ])
+            (λ f. inl (record { header = λ u. absurd (true≢false (sym u ∙ f)); message = m }))
+      ]
+    ]
+
+-- two packets of bytes that agree in a word agree in its bytes
+word-bytes : (p q : List ℕ) (f i : ℕ) → Bytes p → Bytes q → (i ≡ f) ⊎ (i ≡ f + 1) → wordAt q f ≡ wordAt p f → byteAt q i ≡ byteAt p i
+word-bytes p q f i a b w e =
+    ⊎-elim
+    (λ j. ap (byteAt q) j ∙ omega (arith, a (f + 1), b (f + 1)) ∙ ap (byteAt p) (sym j))
+    (λ j. ap (byteAt q) j ∙ omega (arith, a (f + 1), b (f + 1)) ∙ ap (byteAt p) (sym j))
+    w
+
+-- and so do those of a word that is 0
+zero-bytes : (q : List ℕ) (f i : ℕ) → (i ≡ f) ⊎ (i ≡ f + 1) → wordAt q f ≡ 0 → byteAt q i ≡ 0
+zero-bytes q f i w e = ⊎-elim (λ j. ap (byteAt q) j ∙ omega arith) (λ j. ap (byteAt q) j ∙ omega arith) w
+
+module _ (p : List ℕ) (b : Bytes p) (c : clear (wholeRules p)) where
+  header-either : headerSums p ≡ true → four p ≡ true → (wordAt p 10 ≡ freshHeader p) ⊎ ((wordAt p 10 ≡ 65535) × (freshHeader p ≡ 0))
+  unfolding freshHeader sent
+  header-either s f =
+      ⊎-elim inl (λ x. inr (x .1, x .2))
+      (passing-fresh (headerTotal (putWord p 10 0)) (wordAt p 10) false (word-small p 10 b)
+      (ap passes (aside10 (whole-facts p c) (same-self p)) ∙ sums4 p f ∙ s) (λ e. absurd (true≢false (sym e))))
+
+  message-either : silentOf p ≡ false → messageSums p ≡ true
+      → (wordAt p (fieldAt p) ≡ freshMessage p) ⊎ ((udp p ≡ false) × (wordAt p (fieldAt p) ≡ 65535) × (freshMessage p ≡ 0))
+  unfolding freshMessage messageSums silentOf
+  message-either u s =
+      passing-fresh (messageTotal (putWord p (fieldAt p) 0)) (wordAt p (fieldAt p)) (udp p) (word-small p (fieldAt p) b)
+      (ap passes (asideF (whole-facts p c) (same-self p)) ∙ s)
+      (λ e. let n : ¬ (wordAt p (fieldAt p) ≡ 0) = eqb-false (wordAt p (fieldAt p)) 0 (simp e at u) in omega arith)
+
+-- the sums in use pass
+record Passes (p : List ℕ) : Type 0 where
+  whole : clear (wholeRules p)
+  header : headerSums p ≡ true
+  message : (silentOf p && four p) ≡ false → (silentOf p ≡ false) × (messageSums p ≡ true)
+
+good-passes : (p : List ℕ) → (judgeOf p ≡ Good) ⊎ (judgeOf p ≡ Unsummed) → Passes p
+good-passes p =
+    ⊎-elim
+    (λ e.
+    let a = accepted p Good (omega arith) e in
+    record { whole = a .0; header = a .1; message = λ u. verdict-good p (shaped p (a .0) .six) (a .2) })
+    (λ e.
+    let a = accepted p Unsummed (omega arith) e in
+    let v = verdict-unsummed p (shaped p (a .0) .six) (a .2) in
+    record { whole = a .0; header = a .1; message = λ u. absurd (true≢false (simp (v .0, v .1) at u)) })
+
+-- of a good packet, or an unsummed one, a byte can change only where a field other than UDP's stands at FFFF and the fresh
+-- one is 0000; it becomes 0
+pub good-stands : (p : List ℕ) → Bytes p → (judgeOf p ≡ Good) ⊎ (judgeOf p ≡ Unsummed) → (i : ℕ)
+    → (byteAt (mendOf p .1) i ≡ byteAt p i) ⊎ (Full p i × (byteAt (mendOf p .1) i ≡ 0))
+good-stands p b g i =
+    let s = good-passes p g in
+    let c = s .whole in
+    let m = mended p c in
+    let q = mendOf p .1 in
+    let bq = m .bytes b in
+    ⊎-elim (λ o. inl (mend-only-fields p i o))
+    (⊎-elim
+    (λ w.
+    let e = m .header (w .0) in
+    ⊎-elim
+    (λ x. inl (word-bytes p q 10 i b bq (w .1) (e ∙ sym x)))
+    (λ x. inr (inl (w .0, w .1, x .0, x .1), zero-bytes q 10 i (w .1) (e ∙ x .1)))
+    (header-either p b c (s .header) (w .0)))
+    (λ w.
+    by-cases (silentOf p && four p)
+    (λ u. inl (word-bytes p q (fieldAt p) i b bq w (m .kept u)))
+    (λ u.
+    let t = s .message u in
+    let e = m .message u in
+    ⊎-elim
+    (λ x. inl (word-bytes p q (fieldAt p) i b bq w (e ∙ sym x)))
+    (λ x. inr (inr (x .0, w, x .1, x .2), zero-bytes q (fieldAt p) i w (e ∙ x .2)))
+    (message-either p b c (t .0) (t .1)))))
+    (where-stands p i)

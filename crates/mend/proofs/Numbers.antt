@@ -1,14 +1,16 @@
--- The arithmetic of an update.
+-- The arithmetic of a field in its block: as it is sent, updated, and worked out anew.
 use Prim.Native.Nat.{ℕ, zero, suc, _+_, _*_, _-_, _/_, _%_, _≤_, _<_}
-use mathlib.Core.Path.{_≡_, refl, sym, ap, _∙_}
-use mathlib.Core.Bool.{Bool, true, false}
-use native.Mathlib.Nat.{add-mul-mod-self-left}
+use mathlib.Core.Path.{_≡_, refl, ap, _∙_}
+use mathlib.Core.Logic.{_⊎_, inl, inr}
+use mathlib.Core.Bool.{Bool, true, false, _&&_}
 use native.Mathlib.Omega.{arith}
-use borrow.Author.Tests.{ne-eqb}
 use native.Mathlib.Decide.{ℕ-discrete}
+use lib.Dec.{eqb}
+use borrow.Author.Tests.{ne-eqb}
 use Rattle.sums.specs.Fold.{fold, fieldOf, passes}
 use Rattle.sums.specs.Update.{updated}
-use Rattle.sums.proofs.Folds.{fold-as, fold-small, fold-mod, fold-zero, fold-same, fold-fixed}
+use Rattle.sums.proofs.Folds.{fold-as, fold-small, fold-mod, fold-zero, fold-same, fold-fixed, mod-out, mod-in}
+use Rattle.sums.proofs.Passing.{passing, passed, fresh-passes}
 use Rattle.sums.proofs.Updates.{update-keeps}
 use Rattle.mend.specs.Fresh.{sent}
 
@@ -26,8 +28,10 @@ unfolding sent
 sent-as zero = refl
 sent-as (suc w) = let x : ¬ (suc w ≡ 0) = λ z. omega arith in rw (ne-eqb (suc w) 0 x) (omega arith)
 
-pub sent-some : (w : ℕ) → sent true w ≡ 0 → ⊥
-sent-some w h = omega (arith, sent-as w)
+-- UDP's is never 0000
+pub sent-some : (u : Bool) (w : ℕ) → (u && eqb (sent u w) 0) ≡ false
+sent-some false w = refl
+sent-some true w = ne-eqb (sent true w) 0 (λ e. omega (arith, sent-as w))
 
 pub sent-small : (u : Bool) (w : ℕ) → w ≤ 65535 → sent u w ≤ 65535
 sent-small false w h = unfold sent in h
@@ -36,13 +40,6 @@ sent-small true w h = omega (arith, sent-as w)
 sent-mod : (u : Bool) (w : ℕ) → sent u w % 65535 ≡ w % 65535
 sent-mod false w = unfold sent in refl
 sent-mod true w = omega (arith, sent-as w)
-
--- alike mod 65535, as a linear equation; and back
-mod-out : (a b : ℕ) → a % 65535 ≡ b % 65535 → a + 65535 * (b / 65535) ≡ b + 65535 * (a / 65535)
-mod-out a b h = omega arith
-
-mod-in : (a b i j : ℕ) → a + 65535 * i ≡ b + 65535 * j → a % 65535 ≡ b % 65535
-mod-in a b i j h = sym (add-mul-mod-self-left a 65535 i) ∙ ap (λ n. n % 65535) h ∙ add-mul-mod-self-left b 65535 j
 
 -- the block's total t, s with the new bytes in, r with the new field d in too: m and n are the old and new bytes' totals
 alike : (t s r m n a b hc f d : ℕ) → s + m ≡ t + n → r + hc ≡ s + d → d % 65535 ≡ f % 65535 → (f + b) % 65535 ≡ (hc + a) % 65535
@@ -103,7 +100,9 @@ fully x y m n some bytes e =
           let fy : fold y ≡ 65535 = omega (arith, fold-as y) in
           let fx : fold (0 + (65535 - fold m) + fold n) ≡ 0 = ap fold (omega arith) ∙ fold-fixed 0 (omega arith) in
           rw (fx, fy) (omega (arith, sent-as 65535, sent-as 0))
-      | no z ↦ ap (λ w. sent true (fieldOf w)) (renewed x y m n 0 (65535 - fold m) some bytes (omega (arith, fold-small m)) (omega (arith, fold-mod x)) (λ a b c. z (omega (arith, fold-as n))))
+      | no z ↦
+          ap (λ w. sent true (fieldOf w))
+          (renewed x y m n 0 (65535 - fold m) some bytes (omega (arith, fold-small m)) (omega (arith, fold-mod x)) (λ a b c. z (omega (arith, fold-as n))))
     ]
   where
     turned : (x y m : ℕ) → y + m ≡ x → m % 65535 ≡ 0 → x % 65535 ≡ 0 → y % 65535 ≡ 0
@@ -133,42 +132,31 @@ block-fresh t s r t0 r0 m n hc v u bytes field e a b some h =
     moved : (t s r t0 r0 m n hc v : ℕ) → s + m ≡ t + n → r + hc ≡ s + v → t0 + hc ≡ t → r0 + v ≡ r → r0 + m ≡ t0 + n
     moved t s r t0 r0 m n hc v h1 h2 h3 h4 = omega arith
 
--- a block with its fresh field passes
-pub fresh-passes : (t : ℕ) (u : Bool) → passes (t + sent u (fieldOf (fold t))) ≡ true
-unfolding passes
-fresh-passes t u =
-    let d = sent u (fieldOf (fold t)) in
-    let n : ¬ (t + d ≡ 0) = λ z. some u z in
-    let m : (t + d) % 65535 ≡ 0 = added t d (fieldOf (fold t)) (sent-mod u (fieldOf (fold t))) (omega (arith, fold-as t)) in
-    simp (ne-eqb (t + d) 0 n, m)
-  where
-    added : (t d f : ℕ) → d % 65535 ≡ f % 65535 → (t + f) % 65535 ≡ 0 → (t + d) % 65535 ≡ 0
-    added t d f h k = omega arith
+-- a block with its fresh field passes, also as UDP sends it
+pub sent-passes : (t : ℕ) (u : Bool) → passes (t + sent u (fieldOf (fold t))) ≡ true
+sent-passes t false = unfold sent in fresh-passes t
+sent-passes t true =
+    let w = fieldOf (fold t) in
+    passing (t + sent true w) (omega (arith, sent-as w)) (omega (arith, sent-as w, passed (t + w) (fresh-passes t) .1))
 
-    some : (u : Bool) → t + sent u (fieldOf (fold t)) ≡ 0 → ⊥
-    some false z = let y : t + fieldOf (fold t) ≡ 0 = unfold sent in z in omega (arith, fold-as t)
-    some true z = sent-some (fieldOf (fold t)) (omega arith)
-
--- a field that passes is the fresh one, but for FFFF where that is 0000 and UDP's rule doesn't make it FFFF
-passing : (t hc : ℕ) → 0 < t + hc → (t + hc) % 65535 ≡ 0 → (0 < fold t + hc) × ((fold t + hc) % 65535 ≡ 0)
-passing t hc some m = (omega (arith, fold-as t), moved (fold t) t hc (fold-mod t) m)
-  where
-    moved : (a t hc : ℕ) → a % 65535 ≡ t % 65535 → (t + hc) % 65535 ≡ 0 → (a + hc) % 65535 ≡ 0
-    moved a t hc h k = omega arith
-
-pub good-fresh : (t hc : ℕ) (u : Bool) → hc ≤ 65535 → 0 < t + hc → (t + hc) % 65535 ≡ 0 → (u ≡ true → 0 < hc)
-    → (u ≡ false → hc ≡ 65535 → fold t ≡ 65535 → ⊥) → hc ≡ sent u (fieldOf (fold t))
+-- a field that passes is the fresh one, or it isn't UDP's and stands at FFFF where the fresh one is 0000
+pub passing-fresh : (t hc : ℕ) (u : Bool) → hc ≤ 65535 → passes (t + hc) ≡ true → (u ≡ true → 0 < hc)
+    → (hc ≡ sent u (fieldOf (fold t))) ⊎ ((u ≡ false) × (hc ≡ 65535) × (sent u (fieldOf (fold t)) ≡ 0))
 unfolding sent
-good-fresh t hc false small some m n c =
-    let k = passing t hc some m in
-    elim (ℕ-discrete (fold t) 65535) [
-      | yes f ↦ elim (ℕ-discrete hc 65535) [ yes g ↦ absurd (c refl g f) | no g ↦ omega arith ]
-      | no f ↦ omega (arith, fold-small t)
-    ]
-good-fresh t hc true small some m n c =
-    let k = passing t hc some m in
-    let l = n refl in
-    elim (ℕ-discrete (fold t) 65535) [
-      | yes f ↦ omega (arith, sent-as (fieldOf (fold t)))
-      | no f ↦ let e : hc ≡ fieldOf (fold t) = omega (arith, fold-small t) in omega (arith, sent-as (fieldOf (fold t)))
-    ]
+passing-fresh t hc u small p some = by u some
+  where
+    only : (0 < fold t + hc) × ((fold t + hc) % 65535 ≡ 0)
+    only = let k = passed (t + hc) p in (omega (arith, fold-as t), moved (fold t) t (fold-mod t) (k .1))
+      where
+        moved : (a t : ℕ) → a % 65535 ≡ t % 65535 → (t + hc) % 65535 ≡ 0 → (a + hc) % 65535 ≡ 0
+        moved a t h k = omega arith
+
+    by : (u : Bool) → (u ≡ true → 0 < hc) → (hc ≡ sent u (fieldOf (fold t))) ⊎ ((u ≡ false) × (hc ≡ 65535) × (sent u (fieldOf (fold t)) ≡ 0))
+    by false some =
+        let k = only in
+        elim (ℕ-discrete (fold t + hc) 65535) [ yes e ↦ inl (omega arith) | no e ↦ inr (refl, omega (arith, fold-small t), omega (arith, fold-small t)) ]
+    by true some =
+        let k = only in
+        let h = some refl in
+        let w = fieldOf (fold t) in
+        inl (elim (ℕ-discrete (fold t) 65535) [ yes e ↦ omega (arith, sent-as w) | no e ↦ omega (arith, sent-as w, fold-small t) ])

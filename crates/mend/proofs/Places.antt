@@ -1,14 +1,14 @@
--- The places that edits write: none of them is one that the layout is read from.
+-- The places that are written: none of them is one that the layout is read from.
 use mathlib.Core.Path.{_≡_}
 use mathlib.Core.Logic.{_⊎_, inl, inr}
-use Prim.Native.Nat.{ℕ, _+_, _-_, _<_, _≤_}
+use Prim.Native.Nat.{ℕ, _+_, _<_, _≤_}
 use native.Mathlib.Omega.{arith}
 use mathlib.Core.List.{List}
 use mathlib.Core.Bool.{true}
 use lib.ListN.{length}
 use Rattle.wire.specs.Bytes.{wordAt}
 use Rattle.wire.specs.Outer.{four, startOf}
-use Rattle.wire.specs.Inner.{bodyOf, tcp, udp, fieldAt}
+use Rattle.wire.specs.Inner.{tcp, udp, fieldAt}
 use Rattle.wire.proofs.Facts.{Facts}
 use Rattle.wire.proofs.Same.{Soft}
 use Rattle.wire.proofs.Writes.{Wrote}
@@ -19,18 +19,9 @@ module _ {p : List ℕ} (k : Facts p) where
   soft-header at n h l f =
       record { early = h; seven = λ g. f g .0; nine = λ g. f g .1; tcp = λ t. inl (omega arith); udp = λ t. inl (omega arith) }
 
-  pub soft-body : (at n : ℕ) → bodyOf p ≤ at → Soft p at n
-  soft-body at n h =
-      record {
-        early = omega arith;
-        seven = λ f. omega arith;
-        nine = λ f. inr (omega arith);
-        tcp = λ t. inr (let z = k .tcp t in omega arith);
-        udp = λ t. inr (let z = k .udp t in omega arith);
-      }
-
-  pub soft-field : Soft p (fieldAt p) 2
-  soft-field =
+  -- in the message, from its field on
+  pub soft-message : (at n : ℕ) → fieldAt p ≤ at → Soft p at n
+  soft-message at n h =
       record {
         early = omega arith;
         seven = λ f. omega arith;

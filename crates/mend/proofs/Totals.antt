@@ -1,16 +1,15 @@
 -- The totals of a packet, as those of parts of it.
-use mathlib.Core.Path.{_≡_, ap, ap₂, _∙_}
-use Prim.Native.Nat.{ℕ, _+_, _-_, _%_, _<_, _≤_}
+use mathlib.Core.Path.{_≡_, ap₂, _∙_}
+use Prim.Native.Nat.{ℕ, _+_, _%_, _<_, _≤_}
 use native.Mathlib.Omega.{arith}
 use mathlib.Core.List.{List, _++_}
 use mathlib.Core.Bool.{true, false}
-use lib.ListN.{length, drop, length-drop}
-use lib.Seq.{length-take-le}
+use lib.ListN.{length}
 use Rattle.verdicts.specs.Choice.{if_then_else_}
 use Rattle.verdicts.proofs.Tests.{by-cases}
 use Rattle.sums.specs.Total.{weigh, oddly}
 use Rattle.sums.specs.Partials.{xor}
-use Rattle.sums.proofs.Totals.{weigh-append, oddly-append, oddly-length}
+use Rattle.sums.proofs.Totals.{weigh-even, oddly-append, oddly-length}
 use Rattle.wire.specs.Outer.{four, startOf}
 use Rattle.wire.specs.Inner.{lengthOf, pseudo}
 use Rattle.wire.specs.Bytes.{part}
@@ -18,7 +17,8 @@ use Rattle.wire.specs.Cover.{pseudoOf, restOf, addressesAt, addressesLength, me
 use Rattle.wire.proofs.Facts.{Facts}
 use Rattle.wire.proofs.Same.{Same, four-same, start-same, end-same, protocol-same, pseudo-same}
 use Rattle.judge.specs.Sums.{headerTotal, messageTotal}
-use Rattle.mend.proofs.Tally.{tally, weigh-tally}
+use Rattle.judge.proofs.Before.{rest-total, rest-even}
+use Rattle.mend.proofs.Tally.{part-length, tally, weigh-tally}
 
 -- the addresses of q in the covered block of p's layout, and what else of the pseudo-header is
 unfoldable pub addressTally : List ℕ → List ℕ → ℕ
@@ -28,21 +28,12 @@ unfoldable pub restTally : List ℕ → ℕ
 restTally p = if pseudo p then weigh false (restOf p) else 0
 
 part-even : (q : List ℕ) (a n : ℕ) → a + n ≤ length q → n % 2 ≡ 0 → oddly (part q a n) ≡ false
-part-even q a n h e =
-    let l : length (part q a n) ≡ n = length-take-le n (drop a q) (rw (length-drop a q) (omega arith)) in
-    oddly-length (part q a n) ∙ rw (l, e)
-
-rest-even : (p : List ℕ) → oddly (restOf p) ≡ false
-unfolding oddly
-rest-even p = by-cases (four p) (λ f. simp f) (λ f. simp f)
-
-even-front : (x y : List ℕ) → oddly x ≡ false → weigh false (x ++ y) ≡ weigh false x + weigh false y
-even-front x y e = weigh-append false x y ∙ ap (λ o. weigh false x + weigh o y) e
+part-even q a n h e = oddly-length (part q a n) ∙ rw (part-length q a n h, e)
 
 -- a pseudo-header has something in it
 pub rest-some : {p : List ℕ} → Facts p → pseudo p ≡ true → 0 < restTally p
-unfolding restTally weigh
-rest-some {p} k t = by-cases (four p) (λ f. simp (t, f) (omega arith)) (λ f. simp (t, f) (omega arith))
+unfolding restTally
+rest-some {p} k t = simp t (omega (arith, rest-total p))
 
 module _ {p q : List ℕ} (k : Facts p) (s : Same p q) where
   pub header-tally : headerTotal q ≡ tally q false 0 (startOf p)
@@ -58,17 +49,16 @@ module _ {p q : List ℕ} (k : Facts p) (s : Same p q) where
   addresses-even : addressesLength p % 2 ≡ 0
   addresses-even = by-cases (four p) (λ f. rw f) (λ f. rw f)
 
-  rest-same : restOf q ≡ restOf p
-  rest-same = rw (four-same s, protocol-same s, start-same s, end-same s)
-
   pseudo-is : pseudoOf q ≡ part q (addressesAt p) (addressesLength p) ++ restOf p
   pseudo-is = rw (four-same s, protocol-same s, start-same s, end-same s)
+
+  front-even : oddly (part q (addressesAt p) (addressesLength p)) ≡ false
+  front-even = part-even q (addressesAt p) (addressesLength p) addresses-in addresses-even
 
   pseudo-even : oddly (pseudoOf q) ≡ false
   pseudo-even =
       rw pseudo-is
-      (oddly-append (part q (addressesAt p) (addressesLength p)) (restOf p)
-      ∙ ap₂ xor (part-even q (addressesAt p) (addressesLength p) addresses-in addresses-even) (rest-even p))
+      (oddly-append (part q (addressesAt p) (addressesLength p)) (restOf p) ∙ ap₂ xor front-even (rest-even p))
 
   pub message-tally : messageTotal q ≡ addressTally p q + restTally p + tally q false (startOf p) (lengthOf p)
   unfolding messageTotal addressTally restTally weigh oddly
@@ -76,9 +66,9 @@ module _ {p q : List ℕ} (k : Facts p) (s : Same p q) where
       let e0 = message-part in
       by-cases (pseudo p)
       (λ t.
-      let e1 = even-front (pseudoOf q) (messageBytes q) pseudo-even in
+      let e1 = weigh-even false (pseudoOf q) (messageBytes q) pseudo-even in
       let e2 : weigh false (pseudoOf q) ≡ weigh false (part q (addressesAt p) (addressesLength p)) + weigh false (restOf p) =
-      rw pseudo-is (even-front (part q (addressesAt p) (addressesLength p)) (restOf p) (part-even q (addressesAt p) (addressesLength p) addresses-in addresses-even)) in
+      rw pseudo-is (weigh-even false (part q (addressesAt p) (addressesLength p)) (restOf p) front-even) in
       let e3 = weigh-tally q false (addressesAt p) (addressesLength p) addresses-in in
       simp (pseudo-same s, t) (omega arith))
       (λ t. simp (pseudo-same s, t) (omega arith))

@@ -1,36 +1,31 @@
 -- A block with a word of it read as 0000: the sum of what stands before the word joined with that of what follows it.
-use Prim.Native.Nat.{ℕ, _+_, _-_, _/_, _%_, _≤_}
+use Prim.Native.Nat.{ℕ, _+_, _-_, _%_, _≤_}
 use mathlib.Core.Path.{_≡_, refl, sym, ap, ap₂, _∙_}
-use mathlib.Core.Bool.{Bool, true, false}
+use mathlib.Core.Bool.{false}
 use mathlib.Core.List.{List, [], _∷_, _++_}
 use native.Mathlib.Omega.{arith}
 use native.Mathlib.Numerals.{add-one}
-use lib.ListN.{length, drop, length-drop, length-append}
-use lib.Seq.{length-take-le}
+use lib.ListN.{length, length-append}
 use lib.Dec.{eqb}
-use Rattle.verdicts.specs.Choice.{if_then_else_}
 use Rattle.verdicts.proofs.Tests.{by-cases}
-use Rattle.sums.specs.Total.{weigh, total, oddly}
+use Rattle.sums.specs.Total.{total, oddly}
 use Rattle.sums.specs.Fold.{fold, fieldOf}
 use Rattle.sums.specs.Partials.{partialOf, joined}
 use Rattle.sums.specs.declared.Partial.{Partial}
 use Rattle.sums.proofs.Totals.{weigh-even, oddly-length}
 use Rattle.sums.proofs.Joins.{partial-path, join-strings}
-use Rattle.wire.specs.Bytes.{wordAt, part, putWord, odd}
-use Rattle.wire.specs.Outer.{four, startOf, endOf, protocolOf}
-use Rattle.wire.specs.Inner.{lengthOf, fieldAt, pseudo}
-use Rattle.wire.specs.Cover.{addressesAt, addressesLength, restOf, pseudoOf, beforeOf, messageBytes}
+use Rattle.wire.specs.Bytes.{part, putWord, odd}
+use Rattle.wire.specs.Outer.{startOf, endOf}
+use Rattle.wire.specs.Inner.{fieldAt, pseudo}
+use Rattle.wire.specs.Cover.{addressesAt, addressesLength, restOf, beforeOf}
 use Rattle.wire.proofs.Facts.{Facts}
 use Rattle.wire.proofs.Writes.{Wrote, put-wrote, part-below}
-use Rattle.wire.proofs.Same.{Same, same-self, four-same, start-same, end-same, protocol-same, pseudo-same}
+use Rattle.wire.proofs.Same.{same-self, four-same, start-same, end-same, protocol-same, pseudo-same}
 use Rattle.judge.specs.Sums.{headerTotal, messageTotal}
 use Rattle.mend.specs.Fresh.{freshHeader}
-use Rattle.mend.proofs.Tally.{tally, turns, turns-odd, weigh-tally, tally-add, part-before, part-behind}
+use Rattle.mend.proofs.Tally.{part-length, tally, turns, turns-odd, weigh-tally, tally-add, part-before, part-behind}
 use Rattle.mend.proofs.Blocks.{addresses-end}
 use Rattle.mend.proofs.Fresh.{same10, writeF, sameF}
-
-part-length : (p : List ℕ) (a n : ℕ) → a + n ≤ length p → length (part p a n) ≡ n
-part-length p a n h = length-take-le n (drop a p) (rw (length-drop a p) (omega arith))
 
 module _ (p : List ℕ) (a f e : ℕ) (low : a ≤ f) (even : (f - a) % 2 ≡ 0) (high : f + 2 ≤ e) (fits : e ≤ length p) where
   w : Wrote p (putWord p f 0) f (0 ∷ 0 ∷ [])

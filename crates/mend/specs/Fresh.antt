@@ -1,12 +1,14 @@
 -- Fresh fields, each worked out with that field read as 0000.
 use Prim.Native.Nat.{ℕ}
+use mathlib.Core.Path.{_≡_}
 use mathlib.Core.List.{List}
-use mathlib.Core.Bool.{Bool, _&&_}
+use mathlib.Core.Bool.{Bool, true, false, _&&_}
 use lib.Dec.{eqb}
 use Rattle.sums.specs.Fold.{fold, fieldOf}
 use Rattle.verdicts.specs.Choice.{if_then_else_}
-use Rattle.wire.specs.Bytes.{putWord}
-use Rattle.wire.specs.Inner.{fieldAt, udp}
+use Rattle.wire.specs.Bytes.{wordAt, putWord}
+use Rattle.wire.specs.Outer.{four}
+use Rattle.wire.specs.Inner.{fieldAt, udp, silentOf}
 use Rattle.judge.specs.Sums.{headerTotal, messageTotal}
 
 -- a UDP field of 0000 is sent as FFFF
@@ -18,3 +20,12 @@ freshHeader p = fieldOf (fold (headerTotal (putWord p 10 0)))
 
 unfoldable pub freshMessage : List ℕ → ℕ
 freshMessage p = sent (udp p) (fieldOf (fold (messageTotal (putWord p (fieldAt p) 0))))
+
+-- ---- what the theorems speak of: a field in use stands as fresh computation would set it
+-- the header's, in IPv4
+abbrev pub HeaderFresh : List ℕ → Type 0
+HeaderFresh p = four p ≡ true → wordAt p 10 ≡ freshHeader p
+
+-- the message's, unless it is UDP's 0000 over IPv4
+abbrev pub MessageFresh : List ℕ → Type 0
+MessageFresh p = (silentOf p && four p) ≡ false → wordAt p (fieldAt p) ≡ freshMessage p

@@ -3,12 +3,12 @@ use mathlib.Core.Path.{_≡_, _∙_, sym, ap}
 use Prim.Native.Nat.{ℕ}
 use native.Mathlib.Omega.{arith}
 use mathlib.Core.List.{List}
-use mathlib.Core.Bool.{true, false, _&&_}
+use mathlib.Core.Bool.{_&&_}
 use lib.Dec.{eqb}
 use denote.Ref.{now}
 use Rattle.wire.specs.Bytes.{wordAt}
 use Rattle.wire.specs.Outer.{familyOf}
-use Rattle.wire.specs.Inner.{fieldAt, silentOf, wholeOf, Holds}
+use Rattle.wire.specs.Inner.{silentOf, wholeOf, Holds}
 use Rattle.wire.specs.declared.Message.{Message}
 use Rattle.wire.specs.declared.Part.the-variants.{Whole}
 use Rattle.wire.proofs.Held.{held-whole, held-facts, is-four, is-six}
@@ -34,19 +34,32 @@ family c = ap (λ (m : Message). m .family) (holds c .is)
 
 quiet : (c : tie.After-silent) → c .silent .result ≡ silentOf (P (c .before .before .before .before))
 unfolding silentOf
-quiet c = let d = c .before .before .before .before in c .silent .ensures ∙ ap (λ (m : Message). eqb (m .protocol) 17 && eqb (wordAt (P d) (m .field)) 0) (holds d .is)
+quiet c =
+    let d = c .before .before .before .before in
+    c .silent .ensures ∙ ap (λ (m : Message). eqb (m .protocol) 17 && eqb (wordAt (P d) (m .field)) 0) (holds d .is)
 
 silent-requires : tie.Need-silent-requires
-silent-requires c κs = let d = c .before .before .before in let h = holds d in let f = held-facts h in let e = ap (λ (m : Message). m .field) (h .is) in omega arith
+silent-requires c κs =
+    let d = c .before .before .before in
+    let h = holds d in
+    let f = held-facts h in
+    let e = ap (λ (m : Message). m .field) (h .is) in
+    omega arith
 
 returns : tie.Need-returns
-returns c = let d = c .before .before .before .before .before in missing6 (P d) (M d) (whole d) (is-six (P d) (sym (family d) ∙ c .before .before .enum-told2 .given .1)) (sym (quiet (c .before)) ∙ c .if1 .taken)
+returns c =
+    let d = c .before .before .before .before .before in
+    missing6 (P d) (M d) (whole d) (is-six (P d) (sym (family d) ∙ c .before .before .enum-told2 .given .1)) (sym (quiet (c .before)) ∙ c .if1 .taken)
 
 returns-3 : tie.Need-returns-3
-returns-3 c = let d = c .before .before .before in whole-four (P d) (M d) (whole d) (is-four (P d) (sym (family d) ∙ c .enum-told .given .1))
+returns-3 c =
+    let d = c .before .before .before in
+    whole-four (P d) (M d) (whole d) (is-four (P d) (sym (family d) ∙ c .enum-told .given .1))
 
 returns-4 : tie.Need-returns-4
-returns-4 c = let d = c .before .before .before .before .before in summed6 (P d) (M d) (whole d) (sym (quiet (c .before)) ∙ c .if1 .left)
+returns-4 c =
+    let d = c .before .before .before .before .before in
+    summed6 (P d) (M d) (whole d) (sym (quiet (c .before)) ∙ c .if1 .left)
 
 pub editable-spec : {M : Type 1} → statement M
 editable-spec =

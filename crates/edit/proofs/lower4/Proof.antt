@@ -1,6 +1,6 @@
 -- The two cases of an IPv4 lifetime.
 use Rattle.edit.proofs.Made.{spent4, lowered4}
-use mathlib.Core.Path.{_∙_, ap, sym}
+use mathlib.Core.Path.{_∙_, ap}
 use Prim.Native.Nat.{ℕ, _<_}
 use native.Mathlib.Omega.{arith}
 use mathlib.Core.List.{List}

@@ -31,10 +31,18 @@ family : (c : tie.After-part2) → M c .family ≡ familyOf (P c)
 family c = ap (λ (m : Message). m .family) (holds c .is)
 
 lower4-requires : tie.Need-lower4-requires
-lower4-requires c κs = let d = c .before .before .before .before in let f = held-facts (holds d) in (omega arith, is-four (P d) (sym (family d) ∙ c .before .enum-told .given .1))
+lower4-requires c κs =
+    let d = c .before .before .before .before in
+    let f = held-facts (holds d) in
+    (omega arith, is-four (P d) (sym (family d) ∙ c .before .enum-told .given .1))
 
 lower6-requires : tie.Need-lower6-requires
-lower6-requires c κs = let d = c .before .before .before .before in let s = is-six (P d) (sym (family d) ∙ c .before .enum-told2 .given .1) in let f = held-facts (holds d) in let x = f .six s in (omega arith, s)
+lower6-requires c κs =
+    let d = c .before .before .before .before in
+    let s = is-six (P d) (sym (family d) ∙ c .before .enum-told2 .given .1) in
+    let f = held-facts (holds d) in
+    let x = f .six s in
+    (omega arith, s)
 
 returns : tie.Need-returns
 unfolding lifetimeOf
@@ -42,11 +50,17 @@ returns c = simp (by-editable, sym (sym (c .before .part .given .1) ∙ c .befor
 
 returns-2 : tie.Need-returns-2
 unfolding lifetimeOf
-returns-2 c = let l = c .before .before in let d = l .before .before .before .before .before in l .lower4 .ensures ∙ sym (simp (by-editable, sym (whole d)))
+returns-2 c =
+    let l = c .before .before in
+    let d = l .before .before .before .before .before in
+    l .lower4 .ensures ∙ sym (simp (by-editable, sym (whole d)))
 
 returns-3 : tie.Need-returns-3
 unfolding lifetimeOf
-returns-3 c = let l = c .before .before in let d = l .before .before .before .before .before in l .lower6 .ensures ∙ sym (simp (by-editable, sym (whole d)))
+returns-3 c =
+    let l = c .before .before in
+    let d = l .before .before .before .before .before in
+    l .lower6 .ensures ∙ sym (simp (by-editable, sym (whole d)))
 
 pub lower-lifetime-spec : {M : Type 1} → statement M
 lower-lifetime-spec =

@@ -1,16 +1,12 @@
 -- The address is written, and the fields are those that the definition gives.
-use mathlib.Core.Path.{_≡_, _∙_, sym, ap, ap₂}
-use Prim.Native.Nat.{ℕ, _+_, _-_, _≤_}
+use mathlib.Core.Path.{_≡_}
+use Prim.Native.Nat.{ℕ, _+_, _≤_}
 use native.Mathlib.Omega.{arith}
 use mathlib.Core.List.{List}
-use mathlib.Core.Bool.{true, false}
-use lib.ListN.{length}
 use denote.Ref.{now}
-use Rattle.wire.specs.Bytes.{put, odd}
 use Rattle.wire.specs.Outer.{startOf}
-use Rattle.wire.specs.Inner.{fieldAt, pseudo}
+use Rattle.wire.specs.Inner.{fieldAt}
 use Rattle.wire.specs.Cover.{addressesAt, addressesLength}
-use Rattle.wire.specs.declared.Message.{Message}
 use Rattle.wire.proofs.Facts.{Facts}
 use Rattle.wire.proofs.Held.{held-facts}
 use Rattle.mend.proofs.Blocks.{addresses-end}
@@ -34,34 +30,55 @@ known c =
     let f = held-facts (c .pre .0) in
     record { facts = f; start = rw e; field = rw e; ends = addresses-end f }
 
+-- the entry, seen from where both fields are worked out
+abbrev entry : tie.After-renewed2 → tie.Start
+entry c = c .before .before .before .before .before .before .before .before .before .before .before
+
 silent-requires : tie.Need-silent-requires
-silent-requires c κs = let k = known (c .before .before .before .before .before .before .before .before .before .before .before .before) in omega arith
+silent-requires c κs = let k = known (entry (c .before)) in omega arith
 
 put-bytes-requires : tie.Need-put-bytes-requires
-put-bytes-requires c κs = let k = known (c .before .before .before .before .before .before .before .before .before .before .before .before .before .before) in let a = c .before .before .before .before .before .before .before .before .before .before .before .before .before .before .pre .1 in omega arith
+put-bytes-requires c κs =
+    let s = entry (c .before .before .before) in
+    let k = known s in
+    let a = s .pre .1 in
+    omega arith
 
 put-header-requires : tie.Need-put-header-requires
-put-header-requires c κs = let k = known (c .before .before .before .before .before .before .before .before .before .before .before .before .before .before .before .before .before .before) in let e = c .before .before .before .put-bytes .kept .0 in omega (arith, e)
+put-header-requires c κs =
+    let w = c .before .before .before in
+    let k = known (entry (w .before .before .before .before)) in
+    omega (arith, w .put-bytes .kept .0)
 
 put-message-requires : tie.Need-put-message-requires
-put-message-requires c κs = let k = known (c .before .before .before .before .before .before .before .before .before .before .before .before .before .before .before .before .before .before .before .before .before .before .before) in let e = c .before .before .before .before .put-header .kept .0 in let g = c .before .before .before .before .before .before .before .before .put-bytes .kept .0 in omega (arith, e, g)
+put-message-requires c κs =
+    let h = c .before .before .before .before in
+    let w = h .before .before .before .before in
+    let k = known (entry (w .before .before .before .before)) in
+    omega (arith, h .put-header .kept .0, w .put-bytes .kept .0)
 
 returns : tie.Need-returns
 returns c =
     let g = c .before .before in
     let h = g .before .before .before .before .before in
-    let y = h .before .before .before .before in
-    let a = y .before .before .before .before .before .before .before .before .before .before .before .before .before .before .before in
-    address-made (a .pre .0) (a .args .at) (now (a .args .address)) (a .pre .1) _ _ _ _ (y .before .before .before .before .before .before .before .before .before .before .fold-at .ensures) (y .before .before .before .before .before .before .before .before .before .fold-at2 .ensures) (y .before .before .before .before .before .before .before .renewed .ensures) (y .before .before .before .before .renewed2 .ensures) _ (y .before .before .silent .ensures)
-    _ _ (y .put-bytes .ensures) (h .put-header .ensures) _ (g .put-message .ensures) (g .before .before .if1 .taken)
+    let w = h .before .before .before .before in
+    let r = w .before .before .before .before in
+    let s = entry r in
+    address-made (s .pre .0) (s .args .at) (now (s .args .address)) (s .pre .1) _ _ _ _
+    (r .before .before .before .before .before .before .fold-at .ensures) (r .before .before .before .before .before .fold-at2 .ensures)
+    (r .before .before .before .renewed .ensures) (r .renewed2 .ensures) _ (w .before .before .silent .ensures)
+    _ _ (w .put-bytes .ensures) (h .put-header .ensures) _ (g .put-message .ensures) (g .before .before .if1 .taken)
 
 returns-2 : tie.Need-returns-2
 returns-2 c =
     let h = c .before .before .before in
-    let y = h .before .before .before .before in
-    let a = y .before .before .before .before .before .before .before .before .before .before .before .before .before .before .before in
-    address-plain (a .pre .0) (a .args .at) (now (a .args .address)) (a .pre .1) _ _ _ _ (y .before .before .before .before .before .before .before .before .before .before .fold-at .ensures) (y .before .before .before .before .before .before .before .before .before .fold-at2 .ensures) (y .before .before .before .before .before .before .before .renewed .ensures) (y .before .before .before .before .renewed2 .ensures) _ (y .before .before .silent .ensures)
-    _ _ (y .put-bytes .ensures) (h .put-header .ensures) (c .if1 .left)
+    let w = h .before .before .before .before in
+    let r = w .before .before .before .before in
+    let s = entry r in
+    address-plain (s .pre .0) (s .args .at) (now (s .args .address)) (s .pre .1) _ _ _ _
+    (r .before .before .before .before .before .before .fold-at .ensures) (r .before .before .before .before .before .fold-at2 .ensures)
+    (r .before .before .before .renewed .ensures) (r .renewed2 .ensures) _ (w .before .before .silent .ensures)
+    _ _ (w .put-bytes .ensures) (h .put-header .ensures) (c .if1 .left)
 
 pub put-address-spec : {M : Type 1} → statement M
 put-address-spec =

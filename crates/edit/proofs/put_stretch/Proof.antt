@@ -1,12 +1,11 @@
 -- The new bytes are written, and the field is that which the definition gives.
-use mathlib.Core.Path.{_≡_, _∙_, sym, ap}
-use Prim.Native.Nat.{ℕ, _+_, _-_, _≤_}
+use mathlib.Core.Path.{_≡_}
+use Prim.Native.Nat.{ℕ}
 use native.Mathlib.Omega.{arith}
 use mathlib.Core.List.{List}
 use denote.Ref.{now}
 use Rattle.wire.specs.Outer.{startOf}
 use Rattle.wire.specs.Inner.{fieldAt}
-use Rattle.wire.specs.declared.Message.{Message}
 use Rattle.wire.proofs.Facts.{Facts}
 use Rattle.wire.proofs.Held.{held-facts}
 use Rattle.edit.proofs.Made.{stretch-made}
@@ -25,19 +24,33 @@ record Known (c : tie.Start) : Type 0 where
 known : (c : tie.Start) → Known c
 known c = let e = c .pre .0 .is in record { facts = held-facts (c .pre .0); start = rw e; field = rw e }
 
+-- the entry, seen from where the field is worked out
+abbrev entry : tie.After-renewed → tie.Start
+entry c = c .before .before .before .before .before .before .before .before .before .before
+
 put-bytes-requires : tie.Need-put-bytes-requires
-put-bytes-requires c κs = let k = known (c .before .before .before .before .before .before .before .before .before .before .before .before .before) in let a = c .before .before .before .before .before .before .before .before .before .before .before .before .before .pre .1 in omega arith
+put-bytes-requires c κs =
+    let s = entry (c .before .before .before) in
+    let k = known s in
+    let a = s .pre .1 in
+    omega arith
 
 put-message-requires : tie.Need-put-message-requires
-put-message-requires c κs = let k = known (c .before .before .before .before .before .before .before .before .before .before .before .before .before .before .before .before .before) in let e = c .before .before .before .put-bytes .kept .0 in omega (arith, e)
+put-message-requires c κs =
+    let w = c .before .before .before in
+    let k = known (entry (w .before .before .before .before)) in
+    omega (arith, w .put-bytes .kept .0)
 
 returns : tie.Need-returns
 returns c =
     let g = c .before .before in
-    let y = g .before .before .before .before in
-    let a = y .before .before .before .before .before .before .before .before .before .before .before .before .before .before in
-    stretch-made (a .pre .0) (a .args .at) (now (a .args .bytes)) _ _ _ (y .before .before .before .before .before .before .before .before .fold-at .ensures) (y .before .before .before .before .before .before .before .fold-at2 .ensures) (y .before .before .before .before .renewed .ensures) _ (y .before .before .silent .ensures)
-    _ _ (y .put-bytes .ensures) (g .put-message .ensures)
+    let w = g .before .before .before .before in
+    let r = w .before .before .before .before in
+    let s = entry r in
+    stretch-made (s .pre .0) (s .args .at) (now (s .args .bytes)) _ _ _
+    (r .before .before .before .before .fold-at .ensures) (r .before .before .before .fold-at2 .ensures)
+    (r .renewed .ensures) _ (w .before .before .silent .ensures)
+    _ _ (w .put-bytes .ensures) (g .put-message .ensures)
 
 pub put-stretch-spec : {M : Type 1} → statement M
 put-stretch-spec =
@@ -51,7 +64,7 @@ put-stretch-spec =
     (λ c κs. search needs)
     (λ c κs. search needs)
     (λ c κs. let k = known (c .before .before .before .before .before .before .before .before .before) in omega arith)
-    (λ c κs. let k = known (c .before .before .before .before .before .before .before .before .before .before .before) in omega arith)
+    (λ c κs. let k = known (entry (c .before)) in omega arith)
     put-bytes-requires
     put-message-requires
     (λ c. search needs)

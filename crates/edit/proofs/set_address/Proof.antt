@@ -30,10 +30,16 @@ family : (c : tie.After-part2) → M c .family ≡ familyOf (P c)
 family c = ap (λ (m : Message). m .family) (holds c .is)
 
 set-side-requires : tie.Need-set-side-requires
-set-side-requires c κs = let d = c .before .before .before .before in let f = is-four (P d) (sym (family d) ∙ c .before .enum-told .given .1) in (holds d, (sym (simp f), sym (simp f)))
+set-side-requires c κs =
+    let d = c .before .before .before .before in
+    let f = is-four (P d) (sym (family d) ∙ c .before .enum-told .given .1) in
+    (holds d, (sym (simp f), sym (simp f)))
 
 set-side-requires-2 : tie.Need-set-side-requires-2
-set-side-requires-2 c κs = let d = c .before .before .before .before in let f = is-six (P d) (sym (family d) ∙ c .before .enum-told2 .given .1) in (holds d, (sym (simp f), sym (simp f)))
+set-side-requires-2 c κs =
+    let d = c .before .before .before .before in
+    let f = is-six (P d) (sym (family d) ∙ c .before .enum-told2 .given .1) in
+    (holds d, (sym (simp f), sym (simp f)))
 
 returns : tie.Need-returns
 unfolding addressOf
@@ -41,11 +47,17 @@ returns c = simp (by-editable, sym (sym (c .before .part .given .1) ∙ c .befor
 
 returns-2 : tie.Need-returns-2
 unfolding addressOf
-returns-2 c = let l = c .before .before in let d = l .before .before .before .before .before in l .set-side .ensures ∙ sym (simp (by-editable, sym (whole d)))
+returns-2 c =
+    let l = c .before .before in
+    let d = l .before .before .before .before .before in
+    l .set-side .ensures ∙ sym (simp (by-editable, sym (whole d)))
 
 returns-3 : tie.Need-returns-3
 unfolding addressOf
-returns-3 c = let l = c .before .before in let d = l .before .before .before .before .before in l .set-side2 .ensures ∙ sym (simp (by-editable, sym (whole d)))
+returns-3 c =
+    let l = c .before .before in
+    let d = l .before .before .before .before .before in
+    l .set-side2 .ensures ∙ sym (simp (by-editable, sym (whole d)))
 
 pub set-address-spec : {M : Type 1} → statement M
 set-address-spec =

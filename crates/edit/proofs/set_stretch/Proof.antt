@@ -3,9 +3,8 @@ use mathlib.Core.Path.{_≡_, _∙_, sym, ap}
 use Prim.Native.Nat.{ℕ, _+_, _-_}
 use native.Mathlib.Omega.{arith}
 use mathlib.Core.List.{List}
-use mathlib.Core.Bool.{Bool, _&&_, _||_}
+use mathlib.Core.Bool.{_&&_, _||_}
 use lib.Dec.{eqb}
-use lib.ListN.{length}
 use denote.Ref.{now}
 use Rattle.verdicts.specs.declared.Verdict.the-variants.{Good}
 use Rattle.wire.specs.Bytes.{put}
@@ -45,33 +44,58 @@ record Known (c : tie.After-part2) : Type 0 where
   end : M c .end ≡ endOf (P c)
 
 known : (c : tie.After-part2) → Known c
-known c = let h = held-editable (P c) (M c) (whole c) in record { holds = h; facts = held-facts h; body = rw (h .is); end = rw (h .is) }
+known c =
+    let h = held-editable (P c) (M c) (whole c) in
+    record { holds = h; facts = held-facts h; body = rw (h .is); end = rw (h .is) }
 
 -- the stretch's own rules stand behind the common ones
 into : (c : tie.After-part2) → stretchIn (P c) (at c) (N c) ≡ stretchOf (P c) (at c) (N c)
 unfolding stretchOf
 into c = sym (simp (by-editable, sym (whole c)))
 
-told : (c : tie.After-blanks) → let d = c .before .before .before .before .before .before .before in
+-- the message's place, seen from behind each test
+abbrev fits : tie.Else2 → tie.After-part2
+fits c = c .before .before .before .before
+
+abbrev filled : tie.Else3 → tie.After-part2
+filled c = fits (c .before)
+
+told : (c : tie.After-blanks) → let d = filled (c .before .before) in
     c .blanks .result ≡ (eqb (protocolOf (P d)) 1 && (blank (P d) (P d) || blank (P d) (put (P d) (bodyOf (P d) + at d) (N d))))
 told c =
-    let d = c .before .before .before .before .before .before .before in
+    let d = filled (c .before .before) in
     c .blanks .ensures ∙ ap (λ (b : ℕ). eqb (protocolOf (P d)) 1 && (blank (P d) (P d) || blank (P d) (put (P d) (b + at d) (N d)))) (known d .body)
 
 returns : tie.Need-returns
-returns c = let d = c .before .before .before in too-long (P d) (at d) (N d) (let k = known (c .before .before .before) in omega arith) ∙ into d
+returns c =
+    let d = c .before .before .before in
+    let k = known d in
+    too-long (P d) (at d) (N d) (omega arith) ∙ into d
 
 returns-2 : tie.Need-returns-2
-returns-2 c = let d = c .before .before .before .before in too-long (P d) (at d) (N d) (let k = known (c .before .before .before .before) in omega arith) ∙ into d
+returns-2 c =
+    let d = c .before .before .before .before in
+    let k = known d in
+    too-long (P d) (at d) (N d) (omega arith) ∙ into d
 
 returns-3 : tie.Need-returns-3
-returns-3 c = let d = c .before .before .before .before .before in empty-kept (P d) (at d) (N d) (let k = known (c .before .before .before .before .before) in omega arith) (c .if3 .taken) ∙ into d
+returns-3 c =
+    let d = fits (c .before) in
+    let k = known d in
+    empty-kept (P d) (at d) (N d) (omega arith) (c .if3 .taken) ∙ into d
 
 returns-4 : tie.Need-returns-4
-returns-4 c = let d = c .before .before .before .before .before .before .before .before in blank-refused (P d) (at d) (N d) (let k = known (c .before .before .before .before .before .before .before .before) in omega arith) (c .before .before .before .if3 .left) (sym (told (c .before)) ∙ c .if4 .taken) ∙ into d
+returns-4 c =
+    let f = c .before .before .before in
+    let d = filled f in
+    let k = known d in
+    blank-refused (P d) (at d) (N d) (omega arith) (f .if3 .left) (sym (told (c .before)) ∙ c .if4 .taken) ∙ into d
 
 put-stretch-requires : tie.Need-put-stretch-requires
-put-stretch-requires c κs = let d = c .before .before .before .before .before .before .before .before .before in let k = known d in (k .holds, (omega arith, omega arith))
+put-stretch-requires c κs =
+    let d = filled (c .before .before .before .before) in
+    let k = known d in
+    (k .holds, (omega arith, omega arith))
 
 returns-5 : tie.Need-returns-5
 unfolding stretchOf
@@ -80,11 +104,12 @@ returns-5 c = simp (by-editable, sym (sym (c .before .part .given .1) ∙ c .bef
 returns-6 : tie.Need-returns-6
 returns-6 c =
     let w = c .before .before in
-    let d = w .before .before .before .before .before .before .before .before .before .before in
+    let f = w .before .before .before .before .before in
+    let d = filled f in
     let k = known d in
     ap (λ (q : List ℕ). (Good, q))
     (w .put-stretch .ensures ∙ ap (λ (a : ℕ). messageAfter (P d) (a - startOf (P d)) a (N d) (put (P d) a (N d))) (ap (λ (x : ℕ). x + at d) (k .body)))
-    ∙ stretch-set (P d) (at d) (N d) (omega arith) (w .before .before .before .before .before .if3 .left) (sym (told (w .before .before .before)) ∙ w .before .before .if4 .left) ∙ into d
+    ∙ stretch-set (P d) (at d) (N d) (omega arith) (f .if3 .left) (sym (told (w .before .before .before)) ∙ w .before .before .if4 .left) ∙ into d
 
 pub set-stretch-spec : {M : Type 1} → statement M
 set-stretch-spec =
@@ -102,7 +127,7 @@ set-stretch-spec =
     (λ c. search needs)
     returns-3
     (λ c. search needs)
-    (λ c κs. let d = c .before .before .before .before .before .before in let k = known d in (k .holds, (omega arith, omega arith)))
+    (λ c κs. let d = filled (c .before) in let k = known d in (k .holds, (omega arith, omega arith)))
     (λ c. search needs)
     returns-4
     put-stretch-requires

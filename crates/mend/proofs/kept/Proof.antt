@@ -3,12 +3,12 @@ use mathlib.Core.Path.{_≡_, _∙_, sym, ap}
 use Prim.Native.Nat.{ℕ}
 use native.Mathlib.Omega.{arith}
 use mathlib.Core.List.{List}
-use mathlib.Core.Bool.{Bool, true, false, _&&_}
+use mathlib.Core.Bool.{_&&_}
 use lib.Dec.{eqb}
 use denote.Ref.{now}
 use Rattle.verdicts.proofs.Tests.{by-cases}
 use Rattle.wire.specs.Bytes.{wordAt}
-use Rattle.wire.specs.Outer.{four, familyOf}
+use Rattle.wire.specs.Outer.{familyOf}
 use Rattle.wire.specs.Inner.{silentOf, fieldAt}
 use Rattle.wire.specs.declared.Message.{Message}
 use Rattle.wire.proofs.Held.{held-facts, is-four, is-six}
@@ -34,7 +34,10 @@ returns c =
     ∙ by-cases (silentOf (P b)) (λ u. u ∙ sym (simp (u, f))) (λ u. u ∙ sym (simp u))
 
 returns-2 : tie.Need-returns-2
-returns-2 c = let b = c .before .before .before in let f = is-six (P b) (sym (family b) ∙ c .enum-told2 .given .1) in by-cases (silentOf (P b)) (λ u. simp (u, f)) (λ u. simp u)
+returns-2 c =
+    let b = c .before .before .before in
+    let f = is-six (P b) (sym (family b) ∙ c .enum-told2 .given .1) in
+    by-cases (silentOf (P b)) (λ u. simp (u, f)) (λ u. simp u)
 
 pub kept-spec : {M : Type 1} → statement M
 kept-spec =

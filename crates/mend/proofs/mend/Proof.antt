@@ -3,7 +3,6 @@ use mathlib.Core.Path.{_≡_, _∙_, sym, ap}
 use Prim.Native.Nat.{ℕ}
 use mathlib.Core.List.{List}
 use denote.Ref.{now}
-use Rattle.verdicts.specs.declared.Verdict.{Verdict}
 use Rattle.verdicts.specs.declared.Verdict.the-variants.{Good}
 use Rattle.wire.specs.Inner.{wholeOf, Holds}
 use Rattle.wire.specs.declared.Message.{Message}

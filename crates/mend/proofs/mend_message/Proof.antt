@@ -24,7 +24,11 @@ unfolding mendedMessage
 returns c = sym (simp (sym (c .before .kept .ensures) ∙ c .if1 .taken))
 
 put-word-requires : tie.Need-put-word-requires
-put-word-requires c κs = let b = c .before .before .before .before .before .before .before in let f = held-facts (b .pre) in let e = field b in omega arith
+put-word-requires c κs =
+    let b = c .before .before .before .before .before .before .before in
+    let f = held-facts (b .pre) in
+    let e = field b in
+    omega arith
 
 returns-2 : tie.Need-returns-2
 unfolding mendedMessage

@@ -1,6 +1,5 @@
 -- What stands before the word, which is even, joined with what follows it.
-use Prim.Native.Nat.{_+_, _-_}
-use mathlib.Core.Path.{_∙_, ap}
+use mathlib.Core.Path.{_∙_}
 use native.Mathlib.Omega.{arith}
 use denote.Ref.{now}
 use Rattle.mend.proofs.Without.{without}

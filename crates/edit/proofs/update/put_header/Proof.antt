@@ -1,6 +1,5 @@
 -- IPv4's field is written; IPv6 has none.
 use mathlib.Core.Path.{_∙_, sym, ap}
-use Prim.Native.Nat.{ℕ}
 use denote.Ref.{now}
 use Rattle.wire.specs.declared.Family.{Family}
 use Rattle.edit.specs.Update.{headerPut}
@@ -9,7 +8,10 @@ use Rattle.edit.proofs.update.put_header.Statement.{statement}
 use Rattle.edit.proofs.update.put_header.Tie as tie
 
 returns : tie.Need-returns
-returns c = let d = c .before .before .before .before in let a = d .before .before .before .args in c .before .before .put-word .ensures ∙ sym (ap (λ (f : Family). headerPut f (now (a .packet)) (a .w)) (d .enum-told .given .1))
+returns c =
+    let d = c .before .before .before .before in
+    let a = d .before .before .before .args in
+    c .before .before .put-word .ensures ∙ sym (ap (λ (f : Family). headerPut f (now (a .packet)) (a .w)) (d .enum-told .given .1))
 
 pub put-header-spec : {M : Type 1} → statement M
 put-header-spec =

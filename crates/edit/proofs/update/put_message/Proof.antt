@@ -1,6 +1,5 @@
 -- The field is written unless it is quiet.
 use mathlib.Core.Path.{_∙_, sym}
-use Rattle.edit.specs.Update.{messagePut}
 use borrow.Author.Needs.{needs}
 use Rattle.edit.proofs.update.put_message.Statement.{statement}
 use Rattle.edit.proofs.update.put_message.Tie as tie

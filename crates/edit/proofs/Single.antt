@@ -1,0 +1,127 @@
+-- One edit: what it answers, that a refused one changes nothing, where its new bytes stand, and what it keeps.
+use mathlib.Core.Path.{_≡_, refl, sym, ap, _∙_}
+use mathlib.Core.Logic.{_↔_, _⊎_, ⊎-elim}
+use Prim.Native.Nat.{ℕ, _+_, _<_, _≤_}
+use native.Mathlib.Omega.{arith}
+use mathlib.Core.List.{List}
+use lib.ListN.{length}
+use Rattle.verdicts.specs.Rules.{first, clear, Decides}
+use Rattle.verdicts.specs.declared.Verdict.{Verdict}
+use Rattle.verdicts.specs.declared.Verdict.the-variants.{Good}
+use Rattle.verdicts.proofs.Rules.{clear-both}
+use Rattle.wire.specs.Bytes.{byteAt, Bytes}
+use Rattle.wire.specs.Outer.{outerRules}
+use Rattle.wire.specs.Inner.{wholeRules, messageRules, bodyOf}
+use Rattle.wire.proofs.Writes.{put-wrote}
+use Rattle.wire.proofs.Same.{four-same, field-same, whole-same}
+use Rattle.judge.specs.Judge.{judgeOf}
+use Rattle.mend.specs.Fresh.{HeaderFresh, MessageFresh}
+use Rattle.mend.specs.Mend.{mendOf, Outside}
+use Rattle.mend.proofs.Calls.{Refusals, call-exactly, call-refused, call-clear, call-done, call-either}
+use Rattle.mend.proofs.Accepted.{judge-kept}
+use Rattle.mend.proofs.Mending.{whole-good, mend-fresh}
+use Rattle.edit.specs.Edits.{editRules, lifetimeRules, lifetimeLeft, lifetimeOf, sideAt, addressRules, addressLeft, addressOf, stretchRules, stretchLeft, stretchOf}
+use Rattle.edit.specs.Runs.{Fit, Edit, lifetime, address, stretch, apply, rulesOf, placeOf, newOf}
+use Rattle.edit.proofs.Sides.{side-addressed}
+use Rattle.edit.proofs.Steps.{accepted, Kept, lifetime-step}
+use Rattle.edit.proofs.Changes.{address-step, stretch-step}
+
+-- what an edit makes of a packet where no rule refuses
+abbrev pub made : Edit → List ℕ → List ℕ
+made lifetime p = lifetimeLeft p
+made (address side new) p = addressLeft p (sideAt p side) new
+made (stretch place new) p = stretchLeft p (bodyOf p + place) new
+
+pub apply-as : (e : Edit) (p : List ℕ) → apply e p ≡ first (rulesOf e p) (λ v. (v, p)) (Good, made e p)
+unfolding lifetimeOf addressOf stretchOf
+apply-as lifetime p = refl
+apply-as (address side new) p = refl
+apply-as (stretch place new) p = refl
+
+-- ---- what it answers
+module _ (e : Edit) (p : List ℕ) where
+  -- each refusal comes exactly in its case, in the paper's order, and good where there is none
+  pub edit-exactly : (v : Verdict) → (apply e p .0 ≡ v) ↔ Decides (rulesOf e p) v
+  edit-exactly v = rw (apply-as e p) (call-exactly (rulesOf e p) p (made e p) v)
+
+  -- a refused edit leaves the packet as it was
+  pub refused-unchanged : (apply e p .0 ≡ Good → ⊥) → apply e p .1 ≡ p
+  refused-unchanged = rw (apply-as e p) (call-refused (rulesOf e p) p (made e p))
+
+  pub accepted-done : clear (rulesOf e p) → apply e p ≡ (Good, made e p)
+  accepted-done c = apply-as e p ∙ call-done (rulesOf e p) p (made e p) c
+
+  -- what holds of the packet before, and of what an edit that no rule refuses makes of it, holds after it
+  pub edit-either : (P : List ℕ → Type 0) → P p → (clear (rulesOf e p) → P (made e p)) → P (apply e p .1)
+  edit-either P a b = rw (apply-as e p) (call-either (rulesOf e p) p (made e p) P a b)
+
+pub accepted-clear : (e : Edit) (p : List ℕ) → apply e p .0 ≡ Good → clear (rulesOf e p)
+unfolding editRules wholeRules outerRules messageRules
+accepted-clear e p g = call-clear (rulesOf e p) p (made e p) (refusals e) (ap (λ (x : Verdict × List ℕ). x .0) (sym (apply-as e p)) ∙ g)
+  where
+    refusals : (e : Edit) → Refusals (rulesOf e p)
+    refusals lifetime = omega arith
+    refusals (address side new) = omega arith
+    refusals (stretch place new) = omega arith
+
+-- ---- what an accepted one leaves
+pub kept : (e : Edit) (p : List ℕ) → Fit e → Bytes p → clear (rulesOf e p) → Kept p (made e p) (placeOf e p) (newOf e p)
+kept lifetime p f b c =
+    let d = clear-both (editRules p) (lifetimeRules p) c in
+    lifetime-step p b (accepted p (d .0))
+kept (address side new) p f b c =
+    let d = clear-both (editRules p) (addressRules p side new) c in
+    address-step p b (accepted p (d .0)) (sideAt p side) new f (side-addressed p side new (d .1))
+kept (stretch place new) p f b c =
+    let d = clear-both (editRules p) (stretchRules p place new) c in
+    stretch-step p b (accepted p (d .0)) place new f (d .1)
+
+-- its new bytes stand in place
+pub new-stands : (e : Edit) (p : List ℕ) → Fit e → Bytes p → apply e p .0 ≡ Good → (j : ℕ) → j < length (newOf e p)
+    → byteAt (apply e p .1) (placeOf e p + j) ≡ byteAt (newOf e p) j
+new-stands e p f b g j h =
+    let c = accepted-clear e p g in
+    let k = kept e p f b c in
+    ap (λ (z : Verdict × List ℕ). byteAt (z .1) (placeOf e p + j)) (accepted-done e p c)
+    ∙ k .others (placeOf e p + j) (k .apart (placeOf e p + j) (omega arith) (omega arith))
+    ∙ put-wrote p (placeOf e p) (newOf e p) (k .fits) .inside j (placeOf e p + j) refl h
+
+-- and what it doesn't write stays, the sum fields aside
+pub byte-stays : (e : Edit) (p : List ℕ) (i : ℕ) → Fit e → Bytes p → Outside p i
+    → (apply e p .0 ≡ Good → (i < placeOf e p) ⊎ (placeOf e p + length (newOf e p) ≤ i)) → byteAt (apply e p .1) i ≡ byteAt p i
+byte-stays e p i f b o u =
+    edit-either e p (λ q. byteAt q i ≡ byteAt p i) refl
+    (λ c.
+    let k = kept e p f b c in
+    let w = put-wrote p (placeOf e p) (newOf e p) (k .fits) in
+    k .others i o ∙ ⊎-elim (λ l. w .below i l) (λ l. w .above i l) (u (ap (λ (z : Verdict × List ℕ). z .0) (accepted-done e p c))))
+
+-- ---- what every edit keeps
+pub record Still (p q : List ℕ) : Type 0 where
+  pub bytes : Bytes q
+  pub judged : judgeOf q ≡ judgeOf p
+  pub header : HeaderFresh p → HeaderFresh q
+  pub message : MessageFresh p → MessageFresh q
+  pub mended : mendOf p .1 ≡ p → mendOf q .1 ≡ q
+  pub long : length q ≡ length p
+  pub outside : (i : ℕ) → Outside p i → Outside q i
+
+pub still : (e : Edit) (p : List ℕ) → Fit e → Bytes p → Still p (apply e p .1)
+still e p f b =
+    edit-either e p (Still p)
+    (record { bytes = b; judged = refl; header = λ h. h; message = λ h. h; mended = λ h. h; long = refl; outside = λ i o. o })
+    (λ c.
+    let k = kept e p f b c in
+    let s = k .same in
+    record {
+      bytes = k .bytes;
+      judged = judge-kept (k .accepts) s (k .header .sums) (k .message .silent) (k .message .sums);
+      header = k .header .fresh;
+      message = k .message .fresh;
+      mended = λ h.
+          let w = k .accepts .whole in
+          let g = mend-fresh p b (whole-good p w) .0 h in
+          mend-fresh (made e p) (k .bytes) (whole-good (made e p) (rw (whole-same s) w)) .1 (k .header .fresh (g .0), k .message .fresh (g .1));
+      long = s .long;
+      outside = λ i o. record { header = λ g. o .header (sym (four-same s) ∙ g); message = rw (field-same s) (o .message) };
+    })

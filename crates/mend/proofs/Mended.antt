@@ -1,0 +1,144 @@
+-- What mending leaves: the header's field set, and then the message's.
+use mathlib.Core.Path.{_≡_, refl, sym, ap, ap₂, _∙_}
+use mathlib.Core.Logic.{_⊎_, ⊎-elim}
+use Prim.Native.Nat.{ℕ, _+_, _<_}
+use native.Mathlib.Omega.{arith}
+use mathlib.Core.List.{List}
+use mathlib.Core.Bool.{true, false, _&&_, true≢false}
+use lib.Dec.{eqb}
+use Rattle.verdicts.specs.Rules.{clear}
+use Rattle.verdicts.proofs.Tests.{by-cases, and-true}
+use Rattle.sums.specs.Fold.{fold, fieldOf}
+use Rattle.wire.specs.Bytes.{byteAt, wordAt, putWord, Bytes}
+use Rattle.wire.specs.Outer.{four}
+use Rattle.wire.specs.Inner.{udp, fieldAt, silentOf, wholeRules}
+use Rattle.wire.proofs.Writes.{bytes-wrote, bytes-word, word-wrote}
+use Rattle.wire.proofs.Facts.{Facts}
+use Rattle.wire.proofs.Same.{Same, same-self, four-same, udp-same, field-same}
+use Rattle.judge.specs.Sums.{headerTotal, messageTotal}
+use Rattle.mend.specs.Fresh.{sent, freshHeader, freshMessage, HeaderFresh, MessageFresh}
+use Rattle.mend.specs.Mend.{mendedHeader, mendedMessage, Outside}
+use Rattle.mend.proofs.Numbers.{sent-some, sent-small}
+use Rattle.mend.proofs.Blocks.{header-out, header-field, message-out, message-field}
+use Rattle.mend.proofs.Places.{word-below, word-above}
+use Rattle.mend.proofs.Fresh.{write10, writeF, same10, sameF, aside10, asideF, freshF, header-fresh, silent-carry, fresh-carry}
+use Rattle.mend.proofs.Accepted.{whole-facts}
+
+-- ---- the header's field set
+record HeaderSet (p q : List ℕ) : Type 0 where
+  same : Same p q
+  bytes : Bytes p → Bytes q
+  word : four p ≡ true → wordAt q 10 ≡ freshHeader p
+  fresh : HeaderFresh q
+  total : messageTotal q ≡ messageTotal p
+  field : wordAt q (fieldAt p) ≡ wordAt p (fieldAt p)
+  others : (i : ℕ) → (four p ≡ true → (i < 10) ⊎ (11 < i)) → byteAt q i ≡ byteAt p i
+
+header-set : {p : List ℕ} → Facts p → HeaderSet p (mendedHeader p)
+unfolding mendedHeader freshHeader
+header-set {p} k =
+    let z = same-self p in
+    let v = freshHeader p in
+    let w = write10 k z v in
+    let s = same10 k z v in
+    let q = putWord p 10 v in
+    let x : headerTotal (putWord q 10 0) ≡ headerTotal (putWord p 10 0) =
+    omega (arith, aside10 k s, aside10 k z, header-field v k z s w, word-wrote v w) in
+    by-cases (four p)
+    (λ f. simp f (record {
+      same = s;
+      bytes = λ b. bytes-wrote w b (bytes-word v (omega arith));
+      word = λ g. word-wrote v w;
+      fresh = λ g. word-wrote v w ∙ rw x;
+      total = message-out k z s w (omega arith) (λ t. simp f (omega arith));
+      field = word-above w (fieldAt p) (omega arith);
+      others = λ i o. ⊎-elim (λ l. w .below i l) (λ l. w .above i (omega arith)) (o f);
+    }))
+    (λ f. simp f (record {
+      same = z;
+      bytes = λ b. b;
+      word = λ g. absurd (true≢false (sym g ∙ f));
+      fresh = λ g. absurd (true≢false (sym g ∙ f));
+      total = refl;
+      field = refl;
+      others = λ i o. refl;
+    }))
+
+-- ---- and the message's, in q of p's layout
+record MessageSet (p q r : List ℕ) : Type 0 where
+  same : Same p r
+  bytes : Bytes q → Bytes r
+  kept : (silentOf q && four q) ≡ true → wordAt r (fieldAt p) ≡ wordAt q (fieldAt p)
+  word : (silentOf q && four q) ≡ false → wordAt r (fieldAt p) ≡ freshMessage q
+  fresh : MessageFresh r
+  silent : silentOf r ≡ (silentOf q && four q)
+  header : HeaderFresh q → HeaderFresh r
+  field : wordAt r 10 ≡ wordAt q 10
+  others : (i : ℕ) → (i < fieldAt p) ⊎ (fieldAt p + 1 < i) → byteAt r i ≡ byteAt q i
+
+message-set : {p q : List ℕ} → Facts p → Same p q → MessageSet p q (mendedMessage q)
+unfolding mendedMessage silentOf
+message-set {p} {q} k a =
+    let t = fieldOf (fold (messageTotal (putWord q (fieldAt p) 0))) in
+    let v = freshMessage q in
+    let e : v ≡ sent (udp p) t = freshF k a in
+    let w = writeF k a v in
+    let s = sameF k a v in
+    let r = putWord q (fieldAt p) v in
+    let x : messageTotal (putWord r (fieldAt p) 0) ≡ messageTotal (putWord q (fieldAt p) 0) =
+    omega (arith, asideF k s, asideF k a, message-field v k a s w, word-wrote v w) in
+    let y : (udp p && eqb v 0) ≡ false = rw e (sent-some (udp p) t) in
+    let silent : silentOf r ≡ false = rw (udp-same s, field-same s, word-wrote v w) y in
+    by-cases (silentOf q && four q)
+    (λ u. simp u (record {
+      same = a;
+      bytes = λ b. b;
+      kept = λ n. refl;
+      word = λ n. absurd (true≢false (sym u ∙ n));
+      fresh = λ n. absurd (true≢false (sym u ∙ n));
+      silent = and-true (silentOf q) (four q) u .0 ∙ sym u;
+      header = λ h. h;
+      field = refl;
+      others = λ i o. refl;
+    }))
+    (λ u. simp u (rw (field-same a) (record {
+      same = s;
+      bytes = λ b. bytes-wrote w b (bytes-word v (rw e (sent-small (udp p) t (omega arith))));
+      kept = λ n. absurd (true≢false (sym n ∙ u));
+      word = λ n. word-wrote v w;
+      fresh = λ n. ap (wordAt r) (field-same s) ∙ word-wrote v w ∙ e ∙ sym (freshF k s ∙ rw x);
+      silent = silent ∙ sym u;
+      header = header-fresh k a s (header-out k a s w (omega arith)) (word-below w 10 (omega arith));
+      field = word-below w 10 (omega arith);
+      others = λ i o. ⊎-elim (λ l. w .below i l) (λ l. w .above i (omega arith)) o;
+    })))
+
+-- ---- both
+pub record Mended (p q : List ℕ) : Type 0 where
+  pub same : Same p q
+  pub bytes : Bytes p → Bytes q
+  pub header : four p ≡ true → wordAt q 10 ≡ freshHeader p
+  pub message : (silentOf p && four p) ≡ false → wordAt q (fieldAt p) ≡ freshMessage p
+  pub kept : (silentOf p && four p) ≡ true → wordAt q (fieldAt p) ≡ wordAt p (fieldAt p)
+  pub fresh : HeaderFresh q × MessageFresh q
+  pub silent : silentOf q ≡ (silentOf p && four p)
+  pub others : (i : ℕ) → Outside p i → byteAt q i ≡ byteAt p i
+
+pub both-set : (p : List ℕ) → clear (wholeRules p) → Mended p (mendedMessage (mendedHeader p))
+both-set p c =
+    let k = whole-facts p c in
+    let z = same-self p in
+    let h = header-set k in
+    let m = message-set k (h .same) in
+    let s : (silentOf (mendedHeader p) && four (mendedHeader p)) ≡ (silentOf p && four p) =
+    ap₂ _&&_ (silent-carry k z (h .same) (h .field)) (four-same (h .same)) in
+    record {
+      same = m .same;
+      bytes = λ b. m .bytes (h .bytes b);
+      header = λ f. m .field ∙ h .word f;
+      message = λ u. m .word (s ∙ u) ∙ fresh-carry k z (h .same) (h .total) (h .field);
+      kept = λ u. m .kept (s ∙ u) ∙ h .field;
+      fresh = (m .header (h .fresh), m .fresh);
+      silent = m .silent ∙ s;
+      others = λ i o. m .others i (o .message) ∙ h .others i (o .header);
+    }
