@@ -11,7 +11,7 @@ use Rattle.verdicts.proofs.Tests.{by-cases}
 use Rattle.wire.specs.Outer.{four, six, fragmentOf, outerRules}
 use Rattle.wire.specs.Inner.{messageRules, silentOf, wholeRules}
 use Rattle.wire.proofs.Facts.{Facts, facts}
-use Rattle.wire.proofs.Same.{Same, four-same, six-same, outer-same, fragment-same, message-same, whole-same}
+use Rattle.wire.proofs.Same.{Same, four-same, six-same, outer-same, fragment-same, message-same}
 use Rattle.judge.specs.Sums.{headerSums, messageSums}
 use Rattle.judge.specs.Judge.{sumRules, judgeRules, judgeOf}
 use Rattle.judge.proofs.Accepts.{shaped}
@@ -26,9 +26,6 @@ pub record Accepted (p : List ℕ) : Type 0 where
 
 pub accepted-whole : (p : List ℕ) → clear (wholeRules p) → (silentOf p ≡ true → four p ≡ true) → Accepted p
 accepted-whole p w q = record { whole = w; quiet = q; facts = whole-facts p w }
-
-pub accepted-same : {p q : List ℕ} → Accepted p → Same p q → silentOf q ≡ silentOf p → Accepted q
-accepted-same {p} {q} c s u = accepted-whole q (rw (whole-same s) (c .whole)) (λ g. four-same s ∙ c .quiet (sym u ∙ g))
 
 -- ---- the judge
 abbrev self : Verdict → Verdict

@@ -24,6 +24,7 @@ use Rattle.mend.proofs.Places.{soft-message, word-below, word-above}
 use Rattle.mend.proofs.Fresh.{silent-carry}
 use Rattle.mend.proofs.Accepted.{Accepted, accepted-whole, judge-kept}
 
+-- what is known of a good packet
 good-message : (p : List ℕ) → judgeOf p ≡ Good → Accepted p × (messageSums p ≡ true)
 good-message p g =
     let a = judge·accepted p Good (omega arith) g in
@@ -52,7 +53,9 @@ body-changed-unseen p at new g low high =
       λ j. sum-tells (a .0) s (header-out k z s w (omega arith)) (word-below w (fieldAt p) (omega arith)) (x .1 j ∙ sym (a .1)) ∙ g,
     )
 
--- a word of the body that is 0000 made FFFF; its distance from the message's start is even
+-- ---- words of the body at an even distance from the message's start, and so from the covered block's, since a
+-- pseudo-header has an even length
+-- one that is 0000 made FFFF
 pub zeros-to-ones-unseen : (p : List ℕ) (i : ℕ) → judgeOf p ≡ Good → bodyOf p ≤ i → i + 2 ≤ endOf p → (i - startOf p) % 2 ≡ 0
     → wordAt p i ≡ 0 → judgeOf (putWord p i 65535) ≡ Good
 zeros-to-ones-unseen p i g low high even e =
@@ -63,7 +66,7 @@ zeros-to-ones-unseen p i g low high even e =
     let t = message-word 65535 k z s i (omega arith) even high w in
     body-changed-unseen p i (255 ∷ 255 ∷ []) g low high .1 (λ n. omega arith, (1, inl (omega arith)))
 
--- two words of the body exchanged, the one at i before the one at j; both distances from the message's start are even
+-- two exchanged, the one at i before the one at j
 pub exchanged-words-unseen : (p : List ℕ) (i j : ℕ) → judgeOf p ≡ Good → bodyOf p ≤ i → i + 2 ≤ j → j + 2 ≤ endOf p
     → (i - startOf p) % 2 ≡ 0 → (j - startOf p) % 2 ≡ 0 → judgeOf (putWord (putWord p i (wordAt p j)) j (wordAt p i)) ≡ Good
 unfolding messageSums
