@@ -65,14 +65,20 @@ pub fn update(field: Field, old: Fold, new: Fold) -> Field
     field_of(fold_of(t))
 }
 
+// The fold of A's bytes followed by B's, from their folds, where A has an even number of bytes.
+pub fn add(a: Fold, b: Fold) -> Fold
+    ensures { λ r. ⌜ r .0 ≡ fold (a .0 + b .0) ⌝ }
+{
+    fold_of(a.0 as u64 + b.0 as u64)
+}
+
 // The partial sum of A's bytes followed by B's.
 pub fn join(a: Partial, b: Partial) -> Partial
     ensures { λ r. ⌜ r ≡ joined a b ⌝ }
 {
-    let x = a.fold.0 as u64;
-    let y = aligned(a.odd, b.fold.0) as u64;
+    let second = Fold(aligned(a.odd, b.fold.0));
     Partial {
-        fold: fold_of(x + y),
+        fold: add(a.fold, second),
         odd: a.odd != b.odd,
     }
 }
