@@ -1,115 +1,133 @@
--- What is known of a packet whose shape nothing refuses.
-use mathlib.Core.Path.{_≡_}
-use Prim.Native.Nat.{ℕ, _+_, _-_, _%_, _<_, _≤_}
+-- What is known of a packet's header whose shape nothing refuses, and of its message.
+use mathlib.Core.Path.{_≡_, ap}
+use Prim.Native.Nat.{ℕ, _+_, _-_, _*_, _%_, _<_, _≤_}
 use native.Mathlib.Omega.{arith}
-use mathlib.Core.List.{List}
-use mathlib.Core.Bool.{true, false, true≢false}
+use mathlib.Core.List.{List, _++_}
+use mathlib.Core.Bool.{true, false, true≢false, _&&_}
 use lib.ListN.{length}
-use lib.Dec.{ltb}
+use lib.Dec.{ltb, eqb}
 use borrow.Author.Tests.{ltb-false, eqb-true, ne-eqb}
 use Rattle.verdicts.specs.Rules.{clear}
 use Rattle.verdicts.proofs.Tests.{by-cases, or-false}
-use Rattle.wire.specs.Bytes.{byteAt, wordAt}
-use Rattle.wire.specs.Outer.{four, six, versionOf, header4Of, startOf, endOf, familyOf, protocolOf, outerRules}
-use Rattle.wire.specs.Table.{planOf}
-use Rattle.wire.specs.Inner.{messageRules, rowIn, lengthOf, bodyOf, offsetOf, tcp, udp, fieldAt, pseudo}
+use Rattle.wire.specs.Bytes.{byteAt, wordAt, part}
+use Rattle.wire.specs.Outer.{four, six, versionOf, header4Of, headerEnd, declaredEnd, familyOf, protocolOf, addressesAt, addressesLength, outerRules}
+use Rattle.wire.specs.Messages.{planIn, offsetIn, shapeRules, beforeIn}
+use Rattle.wire.specs.Inner.{startOf, carriedOf, endOf, lengthOf, messageBytes, messageRules, rowIn, bodyOf, tcp, udp, fieldAt, pseudo, silentOf, addressesOf, beforeOf, coveredOf}
 use Rattle.wire.proofs.Lines.{Lined, row-lined, covered}
+use Rattle.wire.proofs.Parts.{part-length, part-byte, part-word}
+
+-- ---- the header
+pub record OuterFacts (p : List ℕ) : Type 0 where
+  pub some : 0 < byteAt p 0
+  pub least : 20 ≤ headerEnd p
+  pub six : four p ≡ false → (headerEnd p ≡ 40) × (versionOf p ≡ 6)
+  pub addresses : addressesAt p + addressesLength p ≤ headerEnd p
+  pub order : headerEnd p ≤ declaredEnd p
+  pub whole : declaredEnd p ≤ length p
+
+module _ (p : List ℕ) (s : clear (outerRules p)) where
+  is6 : four p ≡ false → versionOf p ≡ 6
+  unfolding outerRules
+  is6 f = by-cases (six p) (λ g. eqb-true (versionOf p) 6 g) (λ g. absurd (true≢false (simp (f, g) at (s .1 .0))))
+
+  long4 : four p ≡ true → 5 ≤ byteAt p 0 % 16
+  unfolding outerRules
+  long4 f = ltb-false (byteAt p 0 % 16) 5 (simp f at (s .1 .1 .1 .0))
+
+  pub outer-facts : OuterFacts p
+  unfolding outerRules headerEnd declaredEnd
+  outer-facts =
+      record {
+        some = by-cases (four p) (λ f. omega (arith, eqb-true (versionOf p) 4 f)) (λ f. omega (arith, is6 f));
+        least = by-cases (four p) (λ f. simp f (omega (arith, long4 f))) (λ f. simp f (omega arith));
+        six = λ f. (simp f, is6 f);
+        addresses = by-cases (four p) (λ f. simp f (omega (arith, long4 f))) (λ f. simp f (omega arith));
+        order = by-cases (four p)
+            (λ f. simp f (ltb-false (wordAt p 2) (header4Of p) (simp f at (s .1 .1 .1 .1 .0))))
+            (λ f. simp f (omega arith));
+        whole = ltb-false (length p) (declaredEnd p) (s .1 .1 .1 .1 .1 .0);
+      }
+
+-- ---- the message
+-- it begins behind the header and before the declared end
+pub begins : {p : List ℕ} → OuterFacts p → (headerEnd p ≤ startOf p) × (startOf p ≤ declaredEnd p)
+unfolding startOf
+begins k = (omega arith, omega arith)
+
+module _ {p : List ℕ} (k : OuterFacts p) where
+  pub carried-length : length (carriedOf p) ≡ declaredEnd p - startOf p
+  unfolding carriedOf
+  carried-length = let b = begins k in part-length p (startOf p) (declaredEnd p - startOf p) (omega arith)
+
+  pub carried-byte : (i : ℕ) → startOf p + i < declaredEnd p → byteAt (carriedOf p) i ≡ byteAt p (startOf p + i)
+  unfolding carriedOf
+  carried-byte i h = part-byte p (startOf p) (declaredEnd p - startOf p) i (omega arith)
+
+  pub carried-word : (i : ℕ) → startOf p + i + 1 < declaredEnd p → wordAt (carriedOf p) i ≡ wordAt p (startOf p + i)
+  unfolding carriedOf
+  carried-word i h = part-word p (startOf p) (declaredEnd p - startOf p) i (omega arith)
 
 pub record Facts (p : List ℕ) : Type 0 where
-  pub some : 0 < byteAt p 0
-  pub least : 20 ≤ startOf p
-  pub most : startOf p ≤ 60
-  pub six : four p ≡ false → (startOf p ≡ 40) × (versionOf p ≡ 6)
-  pub order : startOf p ≤ endOf p
-  pub whole : endOf p ≤ length p
+  pub outer : OuterFacts p
+  pub behind : headerEnd p ≤ startOf p
   pub early : startOf p + 2 ≤ fieldAt p
   pub even : (fieldAt p - startOf p) % 2 ≡ 0
   pub inside : fieldAt p + 2 ≤ bodyOf p
   pub body : bodyOf p ≤ endOf p
+  pub whole : endOf p ≤ declaredEnd p
   pub proto : 0 < protocolOf p
   pub tcp : tcp p ≡ true → (fieldAt p ≡ startOf p + 16) × (startOf p + 20 ≤ bodyOf p)
   pub udp : udp p ≡ true → (fieldAt p ≡ startOf p + 6) × (startOf p + 8 ≤ bodyOf p)
   pub plain : pseudo p ≡ false → protocolOf p ≡ 1
 
-module _ (p : List ℕ) (s : clear (outerRules p)) where
-  pub order : startOf p ≤ endOf p
-  unfolding outerRules startOf endOf
-  order =
-      by-cases (four p)
-      (λ f. simp f (ltb-false (wordAt p 2) (header4Of p) (simp f at (s .1 .1 .1 .1 .0))))
-      (λ f. simp f (omega arith))
+module _ (p : List ℕ) (s : clear (outerRules p)) (m : clear (messageRules p)) where
+  row : Lined (protocolOf p) (planIn (familyOf p) (protocolOf p))
+  unfolding messageRules shapeRules
+  row = row-lined (familyOf p) (protocolOf p) (planIn (familyOf p) (protocolOf p)) (covered (rowIn p) (m .0))
 
-  least : 20 ≤ startOf p
-  unfolding outerRules startOf
-  least =
-      by-cases (four p)
-      (λ f. simp f (omega (arith, ltb-false (byteAt p 0 % 16) 5 (simp f at (s .1 .1 .1 .0)))))
-      (λ f. simp f (omega arith))
+  fixed : planIn (familyOf p) (protocolOf p) .fixed ≤ length (carriedOf p)
+  unfolding messageRules shapeRules
+  fixed = ltb-false (length (carriedOf p)) (planIn (familyOf p) (protocolOf p) .fixed) (m .1 .0)
 
-  pub most : startOf p ≤ 60
-  unfolding startOf
-  most = by-cases (four p) (λ f. simp f (omega arith)) (λ f. simp f (omega arith))
+  offset : tcp p ≡ true → (20 ≤ offsetIn (carriedOf p)) × (offsetIn (carriedOf p) ≤ length (carriedOf p))
+  unfolding messageRules shapeRules
+  offset t =
+      let c = carriedOf p in
+      let o = or-false (ltb (offsetIn c) 20) (ltb (length c) (offsetIn c)) (simp t at (m .1 .1 .0)) in
+      (ltb-false (offsetIn c) 20 (o .0), ltb-false (length c) (offsetIn c) (o .1))
 
-  is6 : four p ≡ false → versionOf p ≡ 6
-  unfolding outerRules
-  is6 f = by-cases (six p) (λ g. eqb-true (versionOf p) 6 g) (λ g. absurd (true≢false (simp (f, g) at (s .1 .0))))
+  pub facts : Facts p
+  unfolding fieldAt pseudo bodyOf endOf
+  facts =
+      let k = outer-facts p s in
+      let b = begins k in
+      let l = carried-length k in
+      let r = row in
+      let x = fixed in
+      record {
+        outer = k;
+        behind = b .0;
+        early = omega arith;
+        even = omega arith;
+        inside = by-cases (tcp p)
+            (λ t. let o = offset t in let q = r .tcp (eqb-true (protocolOf p) 6 t) in simp t (omega arith))
+            (λ t. simp t (omega arith));
+        body = by-cases (tcp p) (λ t. let o = offset t in simp t (omega arith)) (λ t. simp t (omega arith));
+        whole = omega arith;
+        proto = r .some;
+        tcp = λ t. let o = offset t in let q = r .tcp (eqb-true (protocolOf p) 6 t) in (omega arith, simp t (omega arith));
+        udp = λ t.
+            let q = r .udp (eqb-true (protocolOf p) 17 t) in
+            let n : tcp p ≡ false = ne-eqb (protocolOf p) 6 (λ e. omega (arith, eqb-true (protocolOf p) 17 t)) in
+            (omega arith, simp n (omega arith));
+        plain = r .plain;
+      }
 
-  some : 0 < byteAt p 0
-  some =
-      by-cases (four p)
-      (λ f. omega (arith, eqb-true (versionOf p) 4 f))
-      (λ f. omega (arith, is6 f))
+-- ---- its bytes
+module _ {p : List ℕ} (k : Facts p) where
+  pub message-length : length (messageBytes p) ≡ lengthOf p
+  message-length = part-length p (startOf p) (lengthOf p) (omega arith)
 
-  start6 : four p ≡ false → startOf p ≡ 40
-  unfolding startOf
-  start6 f = rw f
-
-  pub whole : endOf p ≤ length p
-  unfolding outerRules
-  whole = ltb-false (length p) (endOf p) (s .1 .1 .1 .1 .1 .0)
-
-  module _ (m : clear (messageRules p)) where
-    row : Lined (protocolOf p) (planOf (rowIn p))
-    unfolding messageRules
-    row = row-lined (familyOf p) (protocolOf p) (planOf (rowIn p)) (covered (rowIn p) (m .0))
-
-    fixed : planOf (rowIn p) .fixed ≤ lengthOf p
-    unfolding messageRules
-    fixed = ltb-false (lengthOf p) (planOf (rowIn p) .fixed) (m .1 .0)
-
-    offset : tcp p ≡ true → (20 ≤ offsetOf p) × (offsetOf p ≤ lengthOf p)
-    unfolding messageRules
-    offset t =
-        let o = or-false (ltb (offsetOf p) 20) (ltb (lengthOf p) (offsetOf p)) (simp t at (m .1 .1 .0)) in
-        (ltb-false (offsetOf p) 20 (o .0), ltb-false (lengthOf p) (offsetOf p) (o .1))
-
-    bounds : (fieldAt p + 2 ≤ bodyOf p) × (bodyOf p ≤ endOf p)
-    unfolding fieldAt
-    bounds =
-        by-cases (tcp p)
-        (λ t. let o = offset t in let h = order in let r = row .tcp (eqb-true (protocolOf p) 6 t) in simp t (omega arith))
-        (λ t. let f = fixed in let h = order in let r = row in simp t (omega arith))
-
-    pub facts : Facts p
-    unfolding fieldAt pseudo
-    facts =
-        let r = row in
-        record {
-          some = some;
-          least = least;
-          most = most;
-          six = λ f. (start6 f, is6 f);
-          order = order;
-          whole = whole;
-          early = omega arith;
-          even = omega arith;
-          inside = bounds .0;
-          body = bounds .1;
-          proto = r .some;
-          tcp = λ t. let o = offset t in let q = r .tcp (eqb-true (protocolOf p) 6 t) in (omega arith, simp t (omega arith));
-          udp = λ t.
-              let q = r .udp (eqb-true (protocolOf p) 17 t) in
-              let n : tcp p ≡ false = ne-eqb (protocolOf p) 6 (λ e. omega (arith, eqb-true (protocolOf p) 17 t)) in
-              (omega arith, simp n (omega arith));
-          plain = r .plain;
-        }
+  -- the covered block is what stands before the message, and the message
+  pub covered-as : coveredOf p ≡ beforeOf p ++ messageBytes p
+  covered-as = ap (λ n. beforeIn (familyOf p) (protocolOf p) (addressesOf p) n ++ messageBytes p) message-length
