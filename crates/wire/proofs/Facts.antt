@@ -1,18 +1,18 @@
 -- What is known of a packet's header whose shape nothing refuses, and of its message.
-use mathlib.Core.Path.{_≡_, ap}
-use Prim.Native.Nat.{ℕ, _+_, _-_, _*_, _%_, _<_, _≤_}
+use mathlib.Core.Path.{_≡_}
+use Prim.Native.Nat.{ℕ, _+_, _-_, _%_, _<_, _≤_}
 use native.Mathlib.Omega.{arith}
-use mathlib.Core.List.{List, _++_}
-use mathlib.Core.Bool.{true, false, true≢false, _&&_}
+use mathlib.Core.List.{List}
+use mathlib.Core.Bool.{true, false, true≢false}
 use lib.ListN.{length}
-use lib.Dec.{ltb, eqb}
+use lib.Dec.{ltb}
 use borrow.Author.Tests.{ltb-false, eqb-true, ne-eqb}
 use Rattle.verdicts.specs.Rules.{clear}
 use Rattle.verdicts.proofs.Tests.{by-cases, or-false}
-use Rattle.wire.specs.Bytes.{byteAt, wordAt, part}
+use Rattle.wire.specs.Bytes.{byteAt, wordAt}
 use Rattle.wire.specs.Outer.{four, six, versionOf, header4Of, headerEnd, declaredEnd, familyOf, protocolOf, addressesAt, addressesLength, outerRules}
-use Rattle.wire.specs.Messages.{planIn, offsetIn, shapeRules, beforeIn}
-use Rattle.wire.specs.Inner.{startOf, carriedOf, endOf, lengthOf, messageBytes, messageRules, rowIn, bodyOf, tcp, udp, fieldAt, pseudo, silentOf, addressesOf, beforeOf, coveredOf}
+use Rattle.wire.specs.Messages.{planIn, offsetIn, shapeRules}
+use Rattle.wire.specs.Inner.{startOf, carriedOf, endOf, messageRules, rowIn, bodyOf, tcp, udp, fieldAt, pseudo}
 use Rattle.wire.proofs.Lines.{Lined, row-lined, covered}
 use Rattle.wire.proofs.Parts.{part-length, part-byte, part-word}
 
@@ -122,12 +122,3 @@ module _ (p : List ℕ) (s : clear (outerRules p)) (m : clear (messageRules p)) 
             (omega arith, simp n (omega arith));
         plain = r .plain;
       }
-
--- ---- its bytes
-module _ {p : List ℕ} (k : Facts p) where
-  pub message-length : length (messageBytes p) ≡ lengthOf p
-  message-length = part-length p (startOf p) (lengthOf p) (omega arith)
-
-  -- the covered block is what stands before the message, and the message
-  pub covered-as : coveredOf p ≡ beforeOf p ++ messageBytes p
-  covered-as = ap (λ n. beforeIn (familyOf p) (protocolOf p) (addressesOf p) n ++ messageBytes p) message-length

@@ -6,7 +6,7 @@ use Rattle.sums.specs.Total.{total}
 use Rattle.sums.specs.Fold.{passes}
 use Rattle.verdicts.specs.Choice.{if_then_else_}
 use Rattle.wire.specs.Outer.{four}
-use Rattle.wire.specs.Cover.{headerBytes, coveredOf}
+use Rattle.wire.specs.Inner.{headerBytes, coveredOf}
 
 unfoldable pub headerTotal : List ℕ → ℕ
 headerTotal p = total (headerBytes p)

@@ -5,17 +5,14 @@ use mathlib.Core.Bool.{Bool, true, false, not}
 use mathlib.Core.List.{List}
 use native.Mathlib.Nat.{add-zero, zero-add}
 use native.Mathlib.Omega.{arith}
-use lib.ListN.{length, drop, length-drop}
-use lib.Seq.{drop-cons, take-length, length-take-le}
+use lib.ListN.{length}
+use lib.Seq.{drop-cons, take-length}
 use lib.Dec.{eqb}
 use borrow.Author.Tests.{eq-eqb, ne-eqb, eqb-true, eqb-false}
 use Rattle.verdicts.proofs.Tests.{by-cases}
 use Rattle.sums.specs.Total.{weigh}
 use Rattle.wire.specs.Bytes.{byteAt, part, odd}
 use Rattle.wire.proofs.Writes.{Wrote}
-
-pub part-length : (p : List ℕ) (a n : ℕ) → a + n ≤ length p → length (part p a n) ≡ n
-part-length p a n h = length-take-le n (drop a p) (rw (length-drop a p) (omega arith))
 
 -- the n bytes from a; the Bool says whether the first counts as odd
 unfoldable pub tally : List ℕ → Bool → ℕ → ℕ → ℕ

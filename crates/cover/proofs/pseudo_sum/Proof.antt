@@ -7,14 +7,14 @@ use mathlib.Core.Bool.{true, false}
 use borrow.Author.Tests.{not-true, not-false}
 use denote.Ref.{now}
 use Rattle.sums.specs.Fold.{fold}
-use Rattle.wire.specs.Outer.{four, familyOf, startOf, endOf, protocolOf}
-use Rattle.wire.specs.Inner.{pseudo}
+use Rattle.wire.specs.Outer.{four, familyOf, protocolOf}
+use Rattle.wire.specs.Inner.{startOf, endOf, pseudo}
 use Rattle.wire.specs.declared.Message.{Message}
 use Rattle.wire.proofs.Held.{held-facts, is-four, is-six}
-use Rattle.judge.proofs.Before.{before-none, before-some}
+use Rattle.cover.proofs.Before.{before-none, before-some}
 use borrow.Author.Needs.{needs}
-use Rattle.judge.proofs.pseudo_sum.Statement.{statement}
-use Rattle.judge.proofs.pseudo_sum.Tie as tie
+use Rattle.cover.proofs.pseudo_sum.Statement.{statement}
+use Rattle.cover.proofs.pseudo_sum.Tie as tie
 
 abbrev P : tie.Start → List ℕ
 P c = now (c .args .packet)
@@ -44,11 +44,11 @@ sub-fold-of c = let k = known (c .before .before .before .before) in let f = hel
 add-fold-of : tie.Need-add-fold-of
 add-fold-of c = let k = known (c .before .before .before .before .before) in let f = held-facts (c .before .before .before .before .before .pre) in omega arith
 
-part-sum-end-2 : tie.Need-part-sum-end-2
-part-sum-end-2 c =
+part-fold-at-end-2 : tie.Need-part-fold-at-end-2
+part-fold-at-end-2 c =
     let b = c .before .before .before .before .before .before .before .before in
     let f = held-facts (b .pre) in
-    let s = f .six (is-six (P b) (sym (known b .family) ∙ c .enum-told2 .given .1)) in
+    let s = f .outer .six (is-six (P b) (sym (known b .family) ∙ c .enum-told2 .given .1)) in
     omega arith
 
 returns-2 : tie.Need-returns-2
@@ -56,14 +56,14 @@ returns-2 c =
     let f = c .before .before .before .before .before in
     let b = f .before .before .before .before .before .before in
     let four : four (P b) ≡ true = is-four (P b) (sym (known b .family) ∙ c .before .before .before .enum-told .given .1) in
-    c .join .ensures ∙ before-some (P b) _ _ (some f) (c .before .sum .ensures ∙ simp four) (rest f)
+    c .add .ensures ∙ before-some (P b) (held-facts (b .pre)) (some f) _ _ (c .before .fold-at .ensures ∙ simp four) (rest f)
 
 returns-3 : tie.Need-returns-3
 returns-3 c =
     let f = c .before .before .before .before .before in
     let b = f .before .before .before .before .before .before in
     let six : four (P b) ≡ false = is-six (P b) (sym (known b .family) ∙ c .before .before .before .enum-told2 .given .1) in
-    c .join2 .ensures ∙ before-some (P b) _ _ (some f) (c .before .sum2 .ensures ∙ simp six) (rest f)
+    c .add2 .ensures ∙ before-some (P b) (held-facts (b .pre)) (some f) _ _ (c .before .fold-at2 .ensures ∙ simp six) (rest f)
 
 pub pseudo-sum-spec : {M : Type 1} → statement M
 pseudo-sum-spec =
@@ -83,7 +83,7 @@ pseudo-sum-spec =
     (λ c. search needs)
     (λ c. search needs)
     (λ c. search needs)
-    part-sum-end-2
+    part-fold-at-end-2
     (λ c κs. search needs)
     (λ c κs. search needs)
     returns-2

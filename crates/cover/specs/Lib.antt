@@ -1,0 +1,2 @@
+-- The totals of what the two fields cover.
+pub mod Sums
