@@ -10,15 +10,15 @@ use Rattle.verdicts.specs.Rules.{Rule, _⇒_, verdictBy, clear}
 use Rattle.verdicts.specs.declared.Verdict.{Verdict}
 use Rattle.verdicts.specs.declared.Verdict.the-variants.{Good, Unsummed}
 use Rattle.verdicts.proofs.Tests.{by-cases}
-use Rattle.verdicts.proofs.Rules.{clear-first, clear-both, clear-join}
+use Rattle.verdicts.proofs.Rules.{clear-first, clear-both, clear-join, Ranks}
 use Rattle.wire.specs.Outer.{four, six, versionOf, headerOf, outerRules, outerOf, fragmentRule, fragmentOf}
+use Rattle.wire.specs.Messages.{shapeRules}
 use Rattle.wire.specs.Inner.{silentOf, messageOf, messageRules, innerOf, wholeRules}
 use Rattle.wire.specs.declared.Frame.the-variants as frame
 use Rattle.wire.specs.declared.Part.the-variants as part
-use Rattle.judge.specs.Sums.{headerSums, messageSums}
+use Rattle.cover.specs.Sums.{headerSums, messageSums}
 use Rattle.judge.specs.Judge.{headerSumRule, sumRules, judgeRules, judgeOf, messageVerdict}
 use Rattle.judge.proofs.Answers.{summed, unsummed, missing, bad, good}
-use Rattle.judge.proofs.Telling.{Ranks}
 
 -- good or unsummed comes only where no refusal before it holds
 past : (xs ys : List Rule) (v : Verdict) → numberOf v ≤ 1 → Ranks (λ w. 2 ≤ numberOf w) xs → verdictBy (xs ++ ys) ≡ v → clear xs × (verdictBy ys ≡ v)
@@ -46,7 +46,7 @@ shaped p w =
 
 module _ (p : List ℕ) where
   pub accepted : (v : Verdict) → numberOf v ≤ 1 → judgeOf p ≡ v → clear (wholeRules p) × (headerSums p ≡ true) × (messageVerdict p ≡ v)
-  unfolding judgeOf judgeRules wholeRules messageVerdict outerRules messageRules
+  unfolding judgeOf judgeRules wholeRules messageVerdict outerRules messageRules shapeRules
   accepted v h e =
       let later = fragmentRule p ++ messageRules p in
       let a = past (outerRules p ++ (headerSumRule p ++ later)) (sumRules p) v h (omega arith) e in

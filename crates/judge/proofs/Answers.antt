@@ -15,7 +15,7 @@ use Rattle.wire.specs.declared.Frame.the-variants.{Refused, Ip}
 use Rattle.wire.specs.declared.Message.{Message}
 use Rattle.wire.specs.declared.Part.the-variants as part
 use Rattle.wire.proofs.Held.{after-outer, after-inner}
-use Rattle.judge.specs.Sums.{headerTotal, headerSums, messageSums}
+use Rattle.cover.specs.Sums.{headerTotal, headerSums, messageSums}
 use Rattle.judge.specs.Judge.{judgeOf, judgeRules, sumRules, messageVerdict}
 
 pub refused : (p : List ℕ) (v : Verdict) → Refused v ≡ outerOf p → v ≡ judgeOf p

@@ -1,30 +1,34 @@
 -- Each verdict comes exactly in its stated case.
-use mathlib.Core.Path.{_≡_, sym, subst, _∙_}
+use mathlib.Core.Path.{_≡_, refl, sym, _∙_}
 use mathlib.Core.Logic.{_↔_, _⊎_, _≢_, inl, inr, ⊎-elim}
-use Prim.Native.Nat.{ℕ, zero, suc, _+_, _/_, _%_, _<_, _≤_}
+use Prim.Native.Nat.{ℕ, _+_, _-_, _*_, _/_, _%_, _<_, _≤_}
 use native.Mathlib.Omega.{arith}
-use mathlib.Core.List.{List}
-use mathlib.Core.Bool.{true, false, not, _||_, true≢false}
+use mathlib.Core.List.{List, _++_}
+use mathlib.Core.Bool.{Bool, true, false, not, _&&_, _||_, true≢false}
 use lib.ListN.{length}
 use lib.Dec.{ltb, eqb}
-use borrow.Author.Tests.{eqb-true, eqb-false, not-false}
+use borrow.Author.Tests.{ltb-false, eqb-true, eqb-false, not-false}
 use Rattle.verdicts.specs.Numbers.{numberOf}
-use Rattle.verdicts.specs.Rules.{Decides}
+use Rattle.verdicts.specs.Rules.{clear, Decides, Comes}
 use Rattle.verdicts.specs.declared.Verdict.{Verdict}
-use Rattle.verdicts.specs.declared.Verdict.the-variants.{Good, Unsummed, Cut, Version, Shape, HeaderSum, Fragment, Uncovered, Missing, MessageSum, Place, Spent, Blank, Mark, Edition, Record, Room}
 use Rattle.verdicts.proofs.Tests.{by-cases}
-use Rattle.verdicts.proofs.Rules.{decides, decided}
+use Rattle.verdicts.proofs.Rules.{decides, decided, ranked}
+use Rattle.verdicts.proofs.Telling.{Tells, yes-tells, no-tells, eqb-tells, ltb-tells, not-tells, and-tells, or-tells, as-tells, Told, next, told-append, told-exactly}
+use Rattle.sums.specs.Fold.{passes}
+use Rattle.sums.proofs.Passing.{passing, passed}
 use Rattle.wire.specs.Bytes.{byteAt, wordAt}
-use Rattle.wire.specs.Outer.{versionOf, four, six, leastOf, header4Of, startOf, endOf, protocolOf, splitOf, fragmentOf, outerRules}
+use Rattle.wire.specs.Outer.{versionOf, four, six, leastOf, header4Of, declaredEnd, protocolOf, splitOf, fragmentOf, outerRules, fragmentRule}
 use Rattle.wire.specs.Table.{uncovered, planOf}
-use Rattle.wire.specs.Inner.{lengthOf, offsetOf, misfitOf, rowIn, udp, fieldAt, silentOf, messageRules}
-use Rattle.wire.specs.Cover.{headerBytes}
-use Rattle.wire.proofs.Facts.{facts}
-use Rattle.judge.specs.Sums.{headerTotal, messageTotal, headerSums, messageSums}
-use Rattle.judge.specs.Judge.{judgeOf, judgeRules, sumRules}
-use Rattle.judge.specs.Cases.{Pass, Listed, conditionsOf, stop, caseOf}
+use Rattle.wire.specs.Messages.{misfitOf, shapeRules}
+use Rattle.wire.specs.Inner.{startOf, rowIn, udp, silentOf, headerBytes, messageRules, wholeRules}
+use Rattle.wire.proofs.Lines.{covered}
+use Rattle.wire.proofs.Facts.{outer-facts, carried-length, facts}
+use Rattle.wire.proofs.InnerCases.{misfits-at}
+use Rattle.wire.proofs.Same.{same-self, silent-at}
+use Rattle.cover.specs.Sums.{headerTotal, messageTotal, headerSums, messageSums}
+use Rattle.judge.specs.Judge.{headerSumRule, missingRule, sumRules, judgeRules, judgeOf}
+use Rattle.judge.specs.Cases.{Pass, Listed, outerCases, headerSumCase, fragmentCase, messageCases, missingCase, unsummedCase, messageSumCase, judgeCases, wholeCases}
 use Rattle.judge.proofs.Protocols.{Kind, icmp, tcp4, udp4, none4, tcp6, udp6, icmp6, none6, kind, listed}
-use Rattle.judge.proofs.Telling.{Tells, yes-tells, no-tells, eqb-tells, ltb-tells, passes-tells, not-tells, and-tells, or-tells, as-tells, Told, nth, stopped, stops, ranked, next}
 
 -- the general law: v is that of the first rule that holds
 pub judged : (p : List ℕ) (v : Verdict) → (judgeOf p ≡ v) ↔ Decides (judgeRules p) v
@@ -32,6 +36,9 @@ unfolding judgeOf
 judged p v = (decides (judgeRules p) v, decided (judgeRules p) v)
 
 -- ---- each test tells its condition
+passes-tells : (t : ℕ) → Tells (passes t) ((0 < t) × (t % 65535 ≡ 0))
+passes-tells t = (passed t, λ e h. true≢false (sym (passing t (h .0) (h .1)) ∙ e))
+
 abbrev Short : ℕ → ℕ → Type 0
 Short n size = (((n ≡ 1) ⊎ (n ≡ 17)) × (size < 8)) ⊎ ((n ≡ 6) × (size < 20)) ⊎ ((n ≡ 58) × (size < 4))
 
@@ -54,11 +61,6 @@ misfit-tells n o size u =
     (λ e. simp e (as-tells (and-tells (eqb n 17) (not (eqb u size)) (eqb-tells n 17) (not-tells (eqb u size) (eqb-tells u size)))
     inr
     (⊎-elim (λ h. absurd (eqb-false n 6 e (h .0))) (λ h. h))))
-
--- number by number
-by : (F : ℕ → Type 0) → F 0 → ((n : ℕ) → F (suc n)) → (n : ℕ) → F n
-by F a b zero = a
-by F a b (suc n) = b n
 
 module _ (p : List ℕ) where
   four-tells : Tells (four p) (versionOf p ≡ 4)
@@ -102,100 +104,92 @@ module _ (p : List ℕ) where
       (λ h. rw (h .0) (yes-tells (h .1)))
       (listed p k)
 
-  short-tells : Kind p → uncovered (rowIn p) ≡ false → Tells (ltb (lengthOf p) (planOf (rowIn p) .fixed)) (Short (protocolOf p) (lengthOf p))
-  short-tells (icmp l) u = let e = l .protocol in rw (l .row) (fixed-tells (protocolOf p) (lengthOf p) 8 (omega arith) (λ h. inl (inl e, h)))
-  short-tells (tcp4 l) u = let e = l .protocol in rw (l .row) (fixed-tells (protocolOf p) (lengthOf p) 20 (omega arith) (λ h. inr (inl (e, h))))
-  short-tells (udp4 l) u = let e = l .protocol in rw (l .row) (fixed-tells (protocolOf p) (lengthOf p) 8 (omega arith) (λ h. inl (inr e, h)))
-  short-tells (none4 l a b c) u = absurd (true≢false (rw (l .row) at u))
-  short-tells (tcp6 l) u = let e = l .protocol in rw (l .row) (fixed-tells (protocolOf p) (lengthOf p) 20 (omega arith) (λ h. inr (inl (e, h))))
-  short-tells (udp6 l) u = let e = l .protocol in rw (l .row) (fixed-tells (protocolOf p) (lengthOf p) 8 (omega arith) (λ h. inl (inr e, h)))
-  short-tells (icmp6 l) u = let e = l .protocol in rw (l .row) (fixed-tells (protocolOf p) (lengthOf p) 4 (omega arith) (λ h. inr (inr (e, h))))
-  short-tells (none6 l a b c) u = absurd (true≢false (rw (l .row) at u))
+  short-tells : Kind p → (size : ℕ) → uncovered (rowIn p) ≡ false → Tells (ltb size (planOf (rowIn p) .fixed)) (Short (protocolOf p) size)
+  short-tells (icmp l) size u = let e = l .protocol in rw (l .row) (fixed-tells (protocolOf p) size 8 (omega arith) (λ h. inl (inl e, h)))
+  short-tells (tcp4 l) size u = let e = l .protocol in rw (l .row) (fixed-tells (protocolOf p) size 20 (omega arith) (λ h. inr (inl (e, h))))
+  short-tells (udp4 l) size u = let e = l .protocol in rw (l .row) (fixed-tells (protocolOf p) size 8 (omega arith) (λ h. inl (inr e, h)))
+  short-tells (none4 l a b c) size u = absurd (true≢false (rw (l .row) at u))
+  short-tells (tcp6 l) size u = let e = l .protocol in rw (l .row) (fixed-tells (protocolOf p) size 20 (omega arith) (λ h. inr (inl (e, h))))
+  short-tells (udp6 l) size u = let e = l .protocol in rw (l .row) (fixed-tells (protocolOf p) size 8 (omega arith) (λ h. inl (inr e, h)))
+  short-tells (icmp6 l) size u = let e = l .protocol in rw (l .row) (fixed-tells (protocolOf p) size 4 (omega arith) (λ h. inr (inr (e, h))))
+  short-tells (none6 l a b c) size u = absurd (true≢false (rw (l .row) at u))
 
-  silent-tells : (udp p ≡ true → fieldAt p ≡ startOf p + 6) → Tells (silentOf p) ((protocolOf p ≡ 17) × (wordAt p (startOf p + 6) ≡ 0))
-  unfolding silentOf
-  silent-tells f =
-      by-cases (udp p)
-      (λ u. simp (u, f u) (as-tells (eqb-tells (wordAt p (startOf p + 6)) 0) (λ h. (eqb-true (protocolOf p) 17 u, h)) (λ h. h .1)))
-      (λ u. simp u (no-tells (λ h. eqb-false (protocolOf p) 17 u (h .0))))
-
-  told : Told (judgeRules p) (conditionsOf p)
-  unfolding judgeRules outerRules messageRules sumRules messageSums messageTotal
-  told =
-      next (eqb-tells (length p) 0) λ a.
-      next other-tells λ b.
-      next (least-tells b) λ c.
-      next (and-tells (four p) (ltb (byteAt p 0 % 16) 5) four-tells (ltb-tells (byteAt p 0 % 16) 5)) λ d.
-      next (and-tells (four p) (ltb (wordAt p 2) (header4Of p)) four-tells (ltb-tells (wordAt p 2) (header4Of p))) λ e.
-      next (ltb-tells (length p) (endOf p)) λ f.
-      next header-tells λ g.
-      next split-tells λ h.
-      next (listed-tells (kind p b)) λ i.
-      next (short-tells (kind p b) i) λ j.
-      next (misfit-tells (protocolOf p) (offsetOf p) (lengthOf p) (wordAt p (startOf p + 4))) λ k.
-      let s = silent-tells (λ u. facts p (a, (b, (c, (d, (e, (f, tt)))))) (i, (j, (k, tt))) .udp u .0) in
-      next (as-tells (and-tells (silentOf p) (six p) s six-tells) (λ t. (t .1, t .0 .0, t .0 .1)) (λ t. ((t .1, t .2), t .0))) λ l.
-      next (as-tells (and-tells (silentOf p) (four p) s four-tells) (λ t. (t .1, t .0 .0, t .0 .1)) (λ t. ((t .1, t .2), t .0))) λ m.
-      next (not-tells (messageSums p) (passes-tells (messageTotal p))) λ n.
+  -- ---- list by list
+  outer-told : Told (outerRules p) (outerCases p)
+  unfolding outerRules
+  outer-told =
+      next (eqb-tells (length p) 0, refl) λ a.
+      next (other-tells, refl) λ b.
+      next (least-tells b, refl) λ c.
+      next (and-tells (four p) (ltb (byteAt p 0 % 16) 5) four-tells (ltb-tells (byteAt p 0 % 16) 5), refl) λ d.
+      next (and-tells (four p) (ltb (wordAt p 2) (header4Of p)) four-tells (ltb-tells (wordAt p 2) (header4Of p)), refl) λ e.
+      next (ltb-tells (length p) (declaredEnd p), refl) λ f.
       tt
 
-  -- ---- from conditions to verdicts
-  -- the first condition that holds leads to the verdict of its rule
-  at : (n : ℕ) → stop p n → judgeOf p ≡ nth n (judgeRules p)
-  unfolding judgeOf
-  at n s = stopped (judgeRules p) (conditionsOf p) told n s
+  module _ (o : clear (outerRules p)) where
+    message-told : Told (messageRules p) (messageCases p)
+    unfolding outerRules messageRules shapeRules
+    message-told =
+        let k = outer-facts p o in
+        let size = declaredEnd p - startOf p in
+        next (listed-tells (kind p (o .1 .0)), refl) λ i.
+        next (rw (carried-length k) (short-tells (kind p (o .1 .0)) size i), refl) λ j.
+        next (
+          rw (misfits-at p k (planOf (rowIn p)) (covered (rowIn p) i) (ltb-false size (planOf (rowIn p) .fixed) (rw (carried-length k) at j)))
+              (misfit-tells (protocolOf p) (byteAt p (startOf p + 12) / 16 * 4) size (wordAt p (startOf p + 4))),
+          refl,
+        ) λ l.
+        tt
 
-  -- and is a case of that verdict
-  place : (n : ℕ) → stop p n → caseOf (nth n (judgeRules p)) p
-  unfolding judgeRules outerRules messageRules sumRules
-  place =
-      by _ (λ s. inl s)
-      (by _ (λ s. s)
-      (by _ (λ s. inr (inl s))
-      (by _ (λ s. inl s)
-      (by _ (λ s. inr (inl s))
-      (by _ (λ s. inr (inr s))
-      (by _ (λ s. s)
-      (by _ (λ s. s)
-      (by _ (λ s. s)
-      (by _ (λ s. inr (inr (inl s)))
-      (by _ (λ s. inr (inr (inr s)))
-      (by _ (λ s. s)
-      (by _ (λ s. s)
-      (by _ (λ s. s)
-      (λ n s. s))))))))))))))
+    module _ (m : clear (messageRules p)) where
+      silent-tells : Tells (silentOf p) ((protocolOf p ≡ 17) × (wordAt p (startOf p + 6) ≡ 0))
+      silent-tells =
+          let k = facts p o m in
+          rw (silent-at (same-self p) k)
+          (by-cases (udp p)
+          (λ u. simp (u, k .udp u .0) (as-tells (eqb-tells (wordAt p (startOf p + 6)) 0) (λ h. (eqb-true (protocolOf p) 17 u, h)) (λ h. h .1)))
+          (λ u. simp u (no-tells (λ h. eqb-false (protocolOf p) 17 u (h .0)))))
 
-  back : (v : Verdict) → caseOf v p → judgeOf p ≡ v
-  unfolding judgeRules outerRules messageRules sumRules
-  back Good s = at 14 s
-  back Unsummed s = at 12 s
-  back Cut s = ⊎-elim (at 0) (⊎-elim (at 2) (at 5)) s
-  back Version s = at 1 s
-  back Shape s = ⊎-elim (at 3) (⊎-elim (at 4) (⊎-elim (at 9) (at 10))) s
-  back HeaderSum s = at 6 s
-  back Fragment s = at 7 s
-  back Uncovered s = at 8 s
-  back Missing s = at 11 s
-  back MessageSum s = at 13 s
-  back Place s = absurd s
-  back Spent s = absurd s
-  back Blank s = absurd s
-  back Mark s = absurd s
-  back Edition s = absurd s
-  back Record s = absurd s
-  back Room s = absurd s
+      zero-tells : (b : Bool) (v : ℕ) → Tells b (versionOf p ≡ v)
+          → Tells (silentOf p && b) ((versionOf p ≡ v) × (protocolOf p ≡ 17) × (wordAt p (startOf p + 6) ≡ 0))
+      zero-tells b v t = as-tells (and-tells (silentOf p) b silent-tells t) (λ z. (z .1, z .0 .0, z .0 .1)) (λ z. ((z .1, z .2), z .0))
+
+      pub missing-told : Told (missingRule p) (missingCase p)
+      missing-told = ((zero-tells (six p) 6 six-tells, refl), λ e. tt)
+
+      sum-told : Told (sumRules p) (missingCase p ++ (unsummedCase p ++ messageSumCase p))
+      unfolding sumRules messageSums messageTotal
+      sum-told =
+          next (zero-tells (six p) 6 six-tells, refl) λ a.
+          next (zero-tells (four p) 4 four-tells, refl) λ b.
+          next (not-tells (messageSums p) (passes-tells (messageTotal p)), refl) λ c.
+          tt
+
+  judge-told : Told (judgeRules p) (judgeCases p)
+  unfolding judgeRules
+  judge-told =
+      let sums = missingCase p ++ (unsummedCase p ++ messageSumCase p) in
+      told-append (outerRules p) (headerSumRule p ++ (fragmentRule p ++ (messageRules p ++ sumRules p)))
+      (outerCases p) (headerSumCase p ++ (fragmentCase p ++ (messageCases p ++ sums))) outer-told λ o.
+      next (header-tells, refl) λ h.
+      next (split-tells, refl) λ f.
+      told-append (messageRules p) (sumRules p) (messageCases p) sums (message-told o) (sum-told o)
+
+  pub whole-told : Told (wholeRules p) (wholeCases p)
+  unfolding wholeRules
+  whole-told =
+      told-append (outerRules p) (fragmentRule p ++ messageRules p) (outerCases p) (fragmentCase p ++ messageCases p) outer-told λ o.
+      next (split-tells, refl) λ f.
+      message-told o
 
 -- each verdict exactly in its case
-pub exactly : (v : Verdict) (p : List ℕ) → (judgeOf p ≡ v) ↔ caseOf v p
-exactly v p =
-    let q = stops (judgeRules p) (conditionsOf p) (told p) in (
-      λ e. subst (λ w. caseOf w p) (sym (at p (q .0) (q .1)) ∙ e) (place p (q .0) (q .1)),
-      back p v,
-    )
+pub exactly : (v : Verdict) (p : List ℕ) → (judgeOf p ≡ v) ↔ Comes (judgeCases p) v
+unfolding judgeOf
+exactly v p = told-exactly (judgeRules p) (judgeCases p) (judge-told p) v
 
 -- 10 to 16 never come from the judge
 pub at-most-nine : (p : List ℕ) → numberOf (judgeOf p) ≤ 9
-unfolding judgeOf judgeRules outerRules messageRules sumRules
+unfolding judgeOf judgeRules outerRules messageRules shapeRules sumRules
 at-most-nine p = ranked (λ v. numberOf v ≤ 9) (judgeRules p) (omega arith) (omega arith)
 
 -- a promise that is one equation, as every one of the layout's and the judge's is, allows one answer

@@ -1,7 +1,5 @@
 -- Laws of the judge: each answer from its facts, the cases of each verdict, the RFCs' words, the tail.
 pub mod Answers
-pub mod Before
-pub mod Telling
 pub mod Protocols
 pub mod Exactly
 pub mod Ones

@@ -1,50 +1,18 @@
 -- RFC 1071's sum against the fold of the total.
 use mathlib.Core.Path.{_≡_, sym, ap, _∙_}
 use mathlib.Core.Logic.{_↔_}
-use Prim.Native.Nat.{ℕ, zero, suc, _+_, _*_, _<_, _≤_}
+use Prim.Native.Nat.{ℕ, suc, _+_, _*_, _≤_}
 use native.Mathlib.Omega.{arith}
-use mathlib.Core.List.{List, [], _∷_, _++_}
+use mathlib.Core.List.{List, [], _∷_}
 use mathlib.Core.Bool.{true}
-use lib.ListN.{take, drop}
 use borrow.Author.Tests.{eqb-true, eq-eqb}
 use Rattle.sums.specs.Total.{weigh, total}
 use Rattle.sums.specs.Fold.{fold, passes}
 use Rattle.sums.proofs.Folds.{fold-as, fold-right, fold-fixed, fold-small}
 use Rattle.sums.proofs.Passing.{passes-exactly}
-use Rattle.wire.specs.Bytes.{part, Bytes}
+use Rattle.wire.specs.Bytes.{Bytes}
 use Rattle.judge.specs.Rfc.{_⊞_, summed, Right}
 
--- ---- strings of bytes
-pub bytes-append : (a b : List ℕ) → Bytes a → Bytes b → Bytes (a ++ b)
-bytes-append [] b u v i = v i
-bytes-append (x ∷ a) b u v zero = u 0
-bytes-append (x ∷ a) b u v (suc i) = bytes-append a b (λ j. u (suc j)) v i
-
--- the same, byte by byte
-abbrev pub Small : List ℕ → Type 0
-Small [] = Unit
-Small (x ∷ xs) = (x < 256) × Small xs
-
-pub bytes-small : (xs : List ℕ) → Small xs → Bytes xs
-bytes-small [] s i = omega arith
-bytes-small (x ∷ xs) s zero = s .0
-bytes-small (x ∷ xs) s (suc i) = bytes-small xs (s .1) i
-
-bytes-take : (n : ℕ) (xs : List ℕ) → Bytes xs → Bytes (take n xs)
-bytes-take zero xs b i = omega arith
-bytes-take (suc n) [] b i = omega arith
-bytes-take (suc n) (x ∷ xs) b zero = b 0
-bytes-take (suc n) (x ∷ xs) b (suc i) = bytes-take n xs (λ j. b (suc j)) i
-
-bytes-drop : (n : ℕ) (xs : List ℕ) → Bytes xs → Bytes (drop n xs)
-bytes-drop zero xs b i = b i
-bytes-drop (suc n) [] b i = omega arith
-bytes-drop (suc n) (x ∷ xs) b i = bytes-drop n xs (λ j. b (suc j)) i
-
-pub bytes-part : (p : List ℕ) (a n : ℕ) → Bytes p → Bytes (part p a n)
-bytes-part p a n b = bytes-take n (drop a p) (bytes-drop a p b)
-
--- ---- the sum
 -- of two words the sum with end-around carry is the fold of their sum
 pub carry-fold : (a b : ℕ) → a ≤ 65535 → b ≤ 65535 → a ⊞ b ≡ fold (a + b)
 carry-fold a b h k = omega (arith, fold-as (a + b))

@@ -10,13 +10,14 @@ use borrow.Author.Tests.{eqb-true, eqb-false, eq-eqb, ne-eqb, not-false}
 use Rattle.verdicts.specs.declared.Verdict.the-variants.{Good, Unsummed}
 use Rattle.verdicts.proofs.Tests.{by-cases, and-true}
 use Rattle.wire.specs.Bytes.{byteAt, wordAt, Bytes}
-use Rattle.wire.specs.Outer.{four, familyOf, versionOf, startOf, protocolOf, outerRules}
+use Rattle.wire.specs.Outer.{four, familyOf, versionOf, protocolOf, outerRules}
 use Rattle.wire.specs.Table.{planOf, rowOf}
-use Rattle.wire.specs.Inner.{lengthOf, pseudo, fieldAt, silentOf, udp, rowIn, messageRules}
-use Rattle.wire.specs.Cover.{coveredOf}
+use Rattle.wire.specs.Messages.{shapeRules}
+use Rattle.wire.specs.Inner.{startOf, lengthOf, pseudo, fieldAt, silentOf, udp, rowIn, messageRules, coveredOf}
 use Rattle.wire.specs.declared.Row.{Row}
 use Rattle.wire.proofs.Facts.{Facts, facts}
-use Rattle.judge.specs.Sums.{messageSums}
+use Rattle.wire.proofs.Same.{same-self, silent-at}
+use Rattle.cover.specs.Sums.{messageSums}
 use Rattle.judge.specs.Judge.{judgeOf}
 use Rattle.judge.specs.Cases.{Listed}
 use Rattle.judge.specs.Rfc.{Right, ihl, data4, Right4, Right6, goodByRfc, unsummedByRfc}
@@ -50,29 +51,24 @@ module _ (p : List ℕ) (b : Bytes p) (s : Shaped p) where
 
   -- a message that isn't UDP's, and one that is
   plain : (block : List ℕ) → protocolOf p ≢ 17 → coveredOf p ≡ block → Right block ↔ Tests p
-  unfolding silentOf
   plain block n e =
-      let r = rightly p b block e in
+      let r = rightly p b known block e in
       let u : udp p ≡ false = ne-eqb (protocolOf p) 17 n in
-      (λ h. (simp u, r .0 h), λ h. r .1 (h .1))
+      (λ h. (silent-at (same-self p) known ∙ simp u, r .0 h), λ h. r .1 (h .1))
 
   summing : (block : List ℕ) (at : ℕ) → protocolOf p ≡ 17 → at ≡ startOf p + 6 → coveredOf p ≡ block
       → ((wordAt p at ≢ 0) × Right block) ↔ Tests p
-  unfolding silentOf
   summing block at n a e =
-      let r = rightly p b block e in
+      let r = rightly p b known block e in
       let u : udp p ≡ true = eq-eqb (protocolOf p) 17 n in
-      let f : fieldAt p ≡ at = known .udp u .0 ∙ sym a in
-      (λ h. (simp (u, f) (ne-eqb (wordAt p at) 0 (h .0)), r .0 (h .1)), λ h. (eqb-false (wordAt p at) 0 (simp (u, f) at (h .0)), r .1 (h .1)))
+      let z : silentOf p ≡ eqb (wordAt p at) 0 = silent-at (same-self p) known ∙ simp (u, known .udp u .0 ∙ sym a) in
+      (λ h. (z ∙ ne-eqb (wordAt p at) 0 (h .0), r .0 (h .1)), λ h. (eqb-false (wordAt p at) 0 (sym z ∙ h .0), r .1 (h .1)))
 
   own-length : protocolOf p ≡ 17 → lengthOf p ≡ wordAt p (startOf p + 4)
-  unfolding messageRules
-  own-length n =
-      let e : not (eqb (wordAt p (startOf p + 4)) (lengthOf p)) ≡ false = simp n at (s .inner .1 .1 .0) in
-      sym (eqb-true (wordAt p (startOf p + 4)) (lengthOf p) (not-false _ e))
+  own-length n = sym (known .udp (eq-eqb (protocolOf p) 17 n) .2)
 
   lined : Listed (versionOf p) (protocolOf p)
-  unfolding outerRules messageRules
+  unfolding outerRules messageRules shapeRules
   lined = ⊎-elim (λ h. h .1) (λ h. absurd (true≢false (sym (h .0) ∙ s .inner .0))) (listed p (kind p (s .outer .1 .0)))
 
   icmp-plain : four p ≡ true → protocolOf p ≡ 1 → pseudo p ≡ false
@@ -84,10 +80,10 @@ module _ (p : List ℕ) (b : Bytes p) (s : Shaped p) where
       let f : four p ≡ true = eq-eqb (versionOf p) 4 v in
       let n = protocol4 p f in
       choose
-      (λ e. plain (data4 p) (λ h. omega arith) (plain4 p f (icmp-plain f (n ∙ e))))
-      (λ e. plain _ (λ h. omega arith) (covered4 p f (with-pseudo (λ h. omega arith)) 6 (wordAt p 2 - ihl p) (n ∙ e) (length4 p f)))
+      (λ e. plain (data4 p) (λ h. omega arith) (plain4 p f known (icmp-plain f (n ∙ e))))
+      (λ e. plain _ (λ h. omega arith) (covered4 p f known (with-pseudo (λ h. omega arith)) 6 (wordAt p 2 - ihl p) (n ∙ e) (length4 p f)))
       (λ e. summing _ (ihl p + 6) (n ∙ e) (ap (λ x. x + 6) (sym (start4 p f)))
-      (covered4 p f (with-pseudo (λ h. omega arith)) 17 (wordAt p (ihl p + 4)) (n ∙ e) (own-length (n ∙ e) ∙ ap (λ x. wordAt p (x + 4)) (start4 p f))))
+      (covered4 p f known (with-pseudo (λ h. omega arith)) 17 (wordAt p (ihl p + 4)) (n ∙ e) (own-length (n ∙ e) ∙ ap (λ x. wordAt p (x + 4)) (start4 p f))))
       (⊎-elim (λ h. rw n at (h .1)) (λ h. absurd (omega arith)) lined)
 
   right6 : versionOf p ≡ 6 → Right6 p ↔ Tests p
@@ -96,10 +92,10 @@ module _ (p : List ℕ) (b : Bytes p) (s : Shaped p) where
       let n = protocol6 p f in
       let size : wordAt p 4 ≤ 65535 = omega (arith, b 4, b 5) in
       choose
-      (λ e. plain _ (λ h. omega arith) (covered6 p f (with-pseudo (λ h. omega arith)) 58 (wordAt p 4) size (n ∙ e) (length6 p f)))
-      (λ e. plain _ (λ h. omega arith) (covered6 p f (with-pseudo (λ h. omega arith)) 6 (wordAt p 4) size (n ∙ e) (length6 p f)))
+      (λ e. plain _ (λ h. omega arith) (covered6 p f known (with-pseudo (λ h. omega arith)) 58 (wordAt p 4) size (n ∙ e) (length6 p f)))
+      (λ e. plain _ (λ h. omega arith) (covered6 p f known (with-pseudo (λ h. omega arith)) 6 (wordAt p 4) size (n ∙ e) (length6 p f)))
       (λ e. summing _ 46 (n ∙ e) (ap (λ x. x + 6) (sym (start6 p f)))
-      (covered6 p f (with-pseudo (λ h. omega arith)) 17 (wordAt p 44) (omega (arith, b 44, b 45)) (n ∙ e) (own-length (n ∙ e) ∙ ap (λ x. wordAt p (x + 4)) (start6 p f))))
+      (covered6 p f known (with-pseudo (λ h. omega arith)) 17 (wordAt p 44) (omega (arith, b 44, b 45)) (n ∙ e) (own-length (n ∙ e) ∙ ap (λ x. wordAt p (x + 4)) (start6 p f))))
       (⊎-elim (λ h. absurd (omega arith)) (λ h. rw n at (turn (h .1))) lined)
 
   -- UDP's zero over IPv4
@@ -107,14 +103,13 @@ module _ (p : List ℕ) (b : Bytes p) (s : Shaped p) where
   zero4 f u = known .udp u .0 ∙ ap (λ x. x + 6) (start4 p f)
 
   silent4 : four p ≡ true → (silentOf p ≡ true) ↔ ((byteAt p 9 ≡ 17) × (wordAt p (ihl p + 6) ≡ 0))
-  unfolding silentOf
   silent4 f = (
     λ h.
-        let q = and-true (udp p) (eqb (wordAt p (fieldAt p)) 0) h in
+        let q = and-true (udp p) (eqb (wordAt p (fieldAt p)) 0) (sym (silent-at (same-self p) known) ∙ h) in
         (sym (protocol4 p f) ∙ eqb-true (protocolOf p) 17 (q .0), ap (wordAt p) (sym (zero4 f (q .0))) ∙ eqb-true (wordAt p (fieldAt p)) 0 (q .1)),
     λ h.
         let u : udp p ≡ true = eq-eqb (protocolOf p) 17 (protocol4 p f ∙ h .0) in
-        simp (u, zero4 f u) (eq-eqb (wordAt p (ihl p + 6)) 0 (h .1)),
+        silent-at (same-self p) known ∙ simp (u, zero4 f u) (eq-eqb (wordAt p (ihl p + 6)) 0 (h .1)),
   )
 
 -- good is what the RFCs ask

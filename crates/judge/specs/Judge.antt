@@ -7,7 +7,7 @@ use Rattle.verdicts.specs.declared.Verdict.{Verdict}
 use Rattle.verdicts.specs.declared.Verdict.the-variants.{Unsummed, HeaderSum, Missing, MessageSum}
 use Rattle.wire.specs.Outer.{four, six, outerRules, fragmentRule}
 use Rattle.wire.specs.Inner.{silentOf, messageRules}
-use Rattle.judge.specs.Sums.{headerSums, messageSums}
+use Rattle.cover.specs.Sums.{headerSums, messageSums}
 
 abbrev pub headerSumRule : List ℕ → List Rule
 headerSumRule p = (not (headerSums p) ⇒ HeaderSum) ∷ []

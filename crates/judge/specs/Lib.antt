@@ -1,5 +1,4 @@
 -- The verdict on a packet: the rules paper's section "Verdict numbers", and what it means.
-pub mod Sums
 pub mod Judge
 pub mod Cases
 pub mod Rfc

@@ -2,8 +2,6 @@
 //
 // Any bytes may be judged. Nothing is changed, nothing behind the declared end is read, and each covered byte is
 // summed once.
-use sums::Fold;
-use sums::Partial;
 use verdicts::Verdict;
 use wire::Family;
 use wire::Frame;
@@ -11,11 +9,9 @@ use wire::Header;
 use wire::Message;
 use wire::Part;
 ghost use mathlib.Core.Path.{_≡_};
-ghost use Rattle.sums.specs.Partials.{partialOf};
 ghost use Rattle.wire.specs.Outer.{outerOf};
 ghost use Rattle.wire.specs.Inner.{Holds};
-ghost use Rattle.wire.specs.Cover.{beforeOf};
-ghost use Rattle.judge.specs.Sums.{headerSums, messageSums};
+ghost use Rattle.cover.specs.Sums.{headerSums, messageSums};
 ghost use Rattle.judge.specs.Judge.{judgeOf, messageVerdict};
 
 // The verdict on a packet.
@@ -47,12 +43,9 @@ fn header_sums(packet: &[u8], h: Header) -> bool
     ensures { λ r. ⌜ r ≡ headerSums (now (packet .entry)) ⌝ }
 {
     let family = h.family;
-    let start = h.start;
+    let end = h.end;
     match family {
-        Family::Four => {
-            let s = sums::sum(&packet[..start]);
-            sums::passes(s.fold)
-        }
+        Family::Four => sums::passes(sums::fold_at(&packet[..end], false)),
         Family::Six => true,
     }
 }
@@ -83,35 +76,7 @@ fn message_sums(packet: &[u8], m: Message) -> bool
 {
     let start = m.start;
     let end = m.end;
-    let before = pseudo_sum(packet, m);
-    let s = sums::join(before, sums::sum(&packet[start..end]));
-    sums::passes(s.fold)
-}
-
-// The partial sum of a message's pseudo-header, or of nothing where it has none.
-pub fn pseudo_sum(packet: &[u8], m: Message) -> Partial
-    requires { ⌜ Holds (now packet) m ⌝ }
-    ensures { λ r. ⌜ r ≡ partialOf (beforeOf (now (packet .entry))) ⌝ }
-{
-    if !m.pseudo {
-        return Partial {
-            fold: Fold(0),
-            odd: false,
-        };
-    }
-    let rest = Partial {
-        fold: sums::fold_of((m.end - m.start) as u64 + m.protocol as u64),
-        odd: false,
-    };
-    let family = m.family;
-    match family {
-        Family::Four => sums::join(
-            sums::sum(&packet[wire::ADDRESSES_4..wire::ADDRESSES_4_END]),
-            rest,
-        ),
-        Family::Six => sums::join(
-            sums::sum(&packet[wire::ADDRESSES_6..wire::ADDRESSES_6_END]),
-            rest,
-        ),
-    }
+    let before = cover::pseudo_sum(packet, m);
+    let message = sums::fold_at(&packet[start..end], false);
+    sums::passes(sums::add(before, message))
 }

@@ -6,13 +6,13 @@ use mathlib.Core.List.{List}
 use mathlib.Core.Bool.{true, false, true≢false}
 use lib.ListN.{length}
 use lib.Dec.{ltb}
-use borrow.Author.Tests.{ltb-false, eqb-true, ne-eqb}
+use borrow.Author.Tests.{ltb-false, eqb-true, ne-eqb, not-false}
 use Rattle.verdicts.specs.Rules.{clear}
 use Rattle.verdicts.proofs.Tests.{by-cases, or-false}
 use Rattle.wire.specs.Bytes.{byteAt, wordAt}
 use Rattle.wire.specs.Outer.{four, six, versionOf, header4Of, headerEnd, declaredEnd, familyOf, protocolOf, addressesAt, addressesLength, outerRules}
 use Rattle.wire.specs.Messages.{planIn, offsetIn, shapeRules}
-use Rattle.wire.specs.Inner.{startOf, carriedOf, endOf, messageRules, rowIn, bodyOf, tcp, udp, fieldAt, pseudo}
+use Rattle.wire.specs.Inner.{startOf, carriedOf, endOf, lengthOf, messageRules, rowIn, bodyOf, tcp, udp, fieldAt, pseudo}
 use Rattle.wire.proofs.Lines.{Lined, row-lined, covered}
 use Rattle.wire.proofs.Parts.{part-length, part-byte, part-word}
 
@@ -77,7 +77,7 @@ pub record Facts (p : List ℕ) : Type 0 where
   pub whole : endOf p ≤ declaredEnd p
   pub proto : 0 < protocolOf p
   pub tcp : tcp p ≡ true → (fieldAt p ≡ startOf p + 16) × (startOf p + 20 ≤ bodyOf p)
-  pub udp : udp p ≡ true → (fieldAt p ≡ startOf p + 6) × (startOf p + 8 ≤ bodyOf p)
+  pub udp : udp p ≡ true → (fieldAt p ≡ startOf p + 6) × (startOf p + 8 ≤ bodyOf p) × (wordAt p (startOf p + 4) ≡ lengthOf p)
   pub plain : pseudo p ≡ false → protocolOf p ≡ 1
 
 module _ (p : List ℕ) (s : clear (outerRules p)) (m : clear (messageRules p)) where
@@ -95,6 +95,12 @@ module _ (p : List ℕ) (s : clear (outerRules p)) (m : clear (messageRules p)) 
       let c = carriedOf p in
       let o = or-false (ltb (offsetIn c) 20) (ltb (length c) (offsetIn c)) (simp t at (m .1 .1 .0)) in
       (ltb-false (offsetIn c) 20 (o .0), ltb-false (length c) (offsetIn c) (o .1))
+
+  own-length : udp p ≡ true → wordAt (carriedOf p) 4 ≡ length (carriedOf p)
+  unfolding messageRules shapeRules
+  own-length u =
+      let n : tcp p ≡ false = ne-eqb (protocolOf p) 6 (λ e. omega (arith, eqb-true (protocolOf p) 17 u)) in
+      eqb-true (wordAt (carriedOf p) 4) (length (carriedOf p)) (not-false _ (simp (n, u) at (m .1 .1 .0)))
 
   pub facts : Facts p
   unfolding fieldAt pseudo bodyOf endOf
@@ -119,6 +125,6 @@ module _ (p : List ℕ) (s : clear (outerRules p)) (m : clear (messageRules p)) 
         udp = λ t.
             let q = r .udp (eqb-true (protocolOf p) 17 t) in
             let n : tcp p ≡ false = ne-eqb (protocolOf p) 6 (λ e. omega (arith, eqb-true (protocolOf p) 17 t)) in
-            (omega arith, simp n (omega arith));
+            (omega arith, simp n (omega arith), omega (arith, own-length t, carried-word k 4 (omega arith)));
         plain = r .plain;
       }

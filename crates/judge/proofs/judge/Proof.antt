@@ -9,7 +9,7 @@ use Rattle.wire.specs.Outer.{outerOf, fragmentOf}
 use Rattle.wire.specs.declared.Header.{Header}
 use Rattle.wire.specs.declared.Frame.the-variants.{Ip}
 use Rattle.wire.proofs.Held.{headed, held-inner}
-use Rattle.judge.specs.Sums.{headerSums}
+use Rattle.cover.specs.Sums.{headerSums}
 use Rattle.judge.proofs.Answers.{refused, unsound, split, unfit, summed}
 use borrow.Author.Needs.{needs}
 use Rattle.judge.proofs.judge.Statement.{statement}

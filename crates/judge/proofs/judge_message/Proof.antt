@@ -3,14 +3,11 @@ use mathlib.Core.Path.{_≡_, _∙_, sym, ap}
 use Prim.Native.Nat.{ℕ}
 use native.Mathlib.Omega.{arith}
 use mathlib.Core.List.{List}
-use mathlib.Core.Bool.{_&&_}
-use lib.Dec.{eqb}
 use denote.Ref.{now}
-use Rattle.wire.specs.Bytes.{wordAt}
 use Rattle.wire.specs.Outer.{familyOf}
 use Rattle.wire.specs.Inner.{silentOf, fieldAt}
 use Rattle.wire.specs.declared.Message.{Message}
-use Rattle.wire.proofs.Held.{held-facts, is-four, is-six}
+use Rattle.wire.proofs.Held.{held-facts, held-silent, is-four, is-six}
 use Rattle.judge.proofs.Answers.{unsummed, missing, bad, good}
 use borrow.Author.Needs.{needs}
 use Rattle.judge.proofs.judge_message.Statement.{statement}
@@ -26,16 +23,13 @@ field : (c : tie.Start) → c .args .m .field ≡ fieldAt (P c)
 field c = ap (λ (m : Message). m .field) (c .pre .is)
 
 quiet : (c : tie.After-silent) → c .silent .result ≡ silentOf (P (c .before .before))
-unfolding silentOf
-quiet c =
-    let b = c .before .before in
-    c .silent .ensures ∙ ap (λ (m : Message). eqb (m .protocol) 17 && eqb (wordAt (P b) (m .field)) 0) (b .pre .is)
+quiet c = c .silent .ensures ∙ held-silent (c .before .before .pre)
 
 returns : tie.Need-returns
 returns c = let q = c .before .before .before in let b = q .before .before in unsummed (P b) (sym (quiet q) ∙ c .before .before .if1 .taken) (is-four (P b) (sym (family b) ∙ c .enum-told .given .1))
 
 returns-2 : tie.Need-returns-2
-returns-2 c = let q = c .before .before .before in let b = q .before .before in missing (P b) (sym (quiet q) ∙ c .before .before .if1 .taken) (held-facts (b .pre) .six (is-six (P b) (sym (family b) ∙ c .enum-told2 .given .1)) .1)
+returns-2 c = let q = c .before .before .before in let b = q .before .before in missing (P b) (sym (quiet q) ∙ c .before .before .if1 .taken) (held-facts (b .pre) .outer .six (is-six (P b) (sym (family b) ∙ c .enum-told2 .given .1)) .1)
 
 returns-3 : tie.Need-returns-3
 returns-3 c = let l = c .before .before in good _ (sym (quiet (l .before)) ∙ l .if1 .left) (sym (c .before .message-sums .ensures) ∙ c .if2 .taken)

@@ -1,20 +1,18 @@
 -- The covered block is what stands before the message, and the message.
 use mathlib.Core.Path.{_≡_, _∙_, ap, ap₂}
-use Prim.Native.Nat.{ℕ, _-_}
+use Prim.Native.Nat.{ℕ, _+_, _-_}
 use native.Mathlib.Omega.{arith}
 use mathlib.Core.List.{List}
 use denote.Ref.{now}
-use Rattle.sums.specs.Fold.{passes}
-use Rattle.sums.specs.Partials.{partialOf, joined}
-use Rattle.sums.specs.declared.Partial.{Partial}
-use Rattle.sums.proofs.Joins.{join-strings}
+use Rattle.sums.specs.Total.{total}
+use Rattle.sums.specs.Fold.{fold, passes}
 use Rattle.sums.proofs.Passing.{passes-fold}
 use Rattle.wire.specs.Bytes.{part}
-use Rattle.wire.specs.Outer.{startOf, endOf}
-use Rattle.wire.specs.Cover.{beforeOf, messageBytes}
+use Rattle.wire.specs.Inner.{startOf, endOf}
 use Rattle.wire.specs.declared.Message.{Message}
 use Rattle.wire.proofs.Held.{held-facts}
-use Rattle.judge.specs.Sums.{messageTotal, messageSums}
+use Rattle.cover.specs.Sums.{messageTotal, messageSums}
+use Rattle.cover.proofs.Before.{message-joined}
 use borrow.Author.Needs.{needs}
 use Rattle.judge.proofs.message_sums.Statement.{statement}
 use Rattle.judge.proofs.message_sums.Tie as tie
@@ -29,13 +27,13 @@ end : (c : tie.Start) → c .args .m .end ≡ endOf (P c)
 end c = ap (λ (m : Message). m .end) (c .pre .is)
 
 returns : tie.Need-returns
-unfolding messageSums messageTotal
+unfolding messageSums
 returns c =
     let b = c .before .before .before .before .before .before in
-    let m = c .before .before .sum .ensures ∙ ap₂ (λ (s e : ℕ). partialOf (part (P b) s (e - s))) (start b) (end b) in
+    let m = c .before .before .fold-at .ensures ∙ ap₂ (λ (s e : ℕ). fold (total (part (P b) s (e - s)))) (start b) (end b) in
     c .passes .ensures
-    ∙ ap (λ (s : Partial). passes (s .fold .0))
-    (c .before .join .ensures ∙ ap₂ joined (c .before .before .before .before .pseudo-sum .ensures) m ∙ join-strings (beforeOf (P b)) (messageBytes (P b)))
+    ∙ ap passes
+    (c .before .add .ensures ∙ ap₂ (λ (x y : ℕ). fold (x + y)) (c .before .before .before .before .pseudo-sum .ensures) m ∙ message-joined (P b) (held-facts (b .pre)))
     ∙ passes-fold (messageTotal (P b))
 
 pub message-sums-spec : {M : Type 1} → statement M
