@@ -6,4 +6,5 @@ pub mod Ones
 pub mod Accepts
 pub mod Covered
 pub mod Rfc
+pub mod Fields
 pub mod Tail

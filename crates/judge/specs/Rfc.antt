@@ -1,11 +1,14 @@
--- Good and unsummed in the RFCs' own words, with the RFCs' numbers for places: no total, fold or table of ours is used.
+-- Good, unsummed and the places of the fields in the RFCs' own words and numbers. Of our own rules only those of the shape
+-- are cited, as "nothing refuses it"; what is said of fields and bodies is said of the places that mender and edits write at.
 use Prim.Native.Nat.{ℕ, _+_, _-_, _*_, _/_, _%_}
 use mathlib.Core.Path.{_≡_}
 use mathlib.Core.Logic.{_⊎_, _≢_}
 use mathlib.Core.List.{List, [], _∷_, _++_}
+use mathlib.Core.Bool.{Bool, true, false}
 use Rattle.verdicts.specs.Rules.{clear}
 use Rattle.wire.specs.Bytes.{byteAt, wordAt, part}
-use Rattle.wire.specs.Inner.{wholeRules}
+use Rattle.wire.specs.Outer.{headerField}
+use Rattle.wire.specs.Inner.{wholeRules, fieldAt, bodyOf, pseudo}
 
 -- RFC 1071: one's complement addition; a carry out of the top is added in at the bottom
 infixl 60 _⊞_
@@ -67,3 +70,31 @@ goodByRfc p = clear (wholeRules p) × ((Four p × Right4 p) ⊎ ((byteAt p 0 / 1
 -- RFC 768: a field that is all zero means that no sum was made; over IPv4 alone
 abbrev pub unsummedByRfc : List ℕ → Type 0
 unsummedByRfc p = clear (wholeRules p) × Four p × (byteAt p 9 ≡ 17) × (wordAt p (ihl p + 6) ≡ 0)
+
+-- ---- where the fields stand
+-- the checksum of the message that begins at `first` stands `place` bytes behind that, its body `header` bytes, and a
+-- pseudo-header is summed or none
+abbrev pub Stands : List ℕ → ℕ → ℕ → ℕ → Bool → Type 0
+Stands p first place header summed = (fieldAt p ≡ first + place) × (bodyOf p ≡ first + header) × (pseudo p ≡ summed)
+
+-- RFC 9293: TCP's header has as many 4-byte words as the high half of its byte 12 says
+abbrev pub tcpHeader : List ℕ → ℕ → ℕ
+tcpHeader p first = byteAt p (first + 12) / 16 * 4
+
+-- RFC 792: ICMP's at 2, behind it a header of 8 bytes in all (house); RFC 9293: TCP's at 16; RFC 768: UDP's at 6, a header of 8
+abbrev pub Fields4 : List ℕ → Type 0
+Fields4 p =
+    ((byteAt p 9 ≡ 1) × Stands p (ihl p) 2 8 false)
+    ⊎ ((byteAt p 9 ≡ 6) × Stands p (ihl p) 16 (tcpHeader p (ihl p)) true)
+    ⊎ ((byteAt p 9 ≡ 17) × Stands p (ihl p) 6 8 true)
+
+-- RFC 4443: ICMPv6's at 2, a header of 4
+abbrev pub Fields6 : List ℕ → Type 0
+Fields6 p =
+    ((byteAt p 6 ≡ 58) × Stands p 40 2 4 true)
+    ⊎ ((byteAt p 6 ≡ 6) × Stands p 40 16 (tcpHeader p 40) true)
+    ⊎ ((byteAt p 6 ≡ 17) × Stands p 40 6 8 true)
+
+-- RFC 791: the header's own at 10
+abbrev pub fieldsByRfc : List ℕ → Type 0
+fieldsByRfc p = (headerField ≡ 10) × (((byteAt p 0 / 16 ≡ 4) × Fields4 p) ⊎ ((byteAt p 0 / 16 ≡ 6) × Fields6 p))

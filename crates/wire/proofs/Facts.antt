@@ -1,6 +1,6 @@
 -- What is known of a packet's header whose shape nothing refuses, and of its message.
 use mathlib.Core.Path.{_≡_}
-use Prim.Native.Nat.{ℕ, _+_, _-_, _%_, _<_, _≤_}
+use Prim.Native.Nat.{ℕ, _+_, _-_, _*_, _/_, _%_, _<_, _≤_}
 use native.Mathlib.Omega.{arith}
 use mathlib.Core.List.{List}
 use mathlib.Core.Bool.{true, false, true≢false}
@@ -76,7 +76,7 @@ pub record Facts (p : List ℕ) : Type 0 where
   pub body : bodyOf p ≤ endOf p
   pub whole : endOf p ≤ declaredEnd p
   pub proto : 0 < protocolOf p
-  pub tcp : tcp p ≡ true → (fieldAt p ≡ startOf p + 16) × (startOf p + 20 ≤ bodyOf p)
+  pub tcp : tcp p ≡ true → (fieldAt p ≡ startOf p + 16) × (startOf p + 20 ≤ bodyOf p) × (bodyOf p ≡ startOf p + byteAt p (startOf p + 12) / 16 * 4)
   pub udp : udp p ≡ true → (fieldAt p ≡ startOf p + 6) × (startOf p + 8 ≤ bodyOf p) × (wordAt p (startOf p + 4) ≡ lengthOf p)
   pub plain : pseudo p ≡ false → protocolOf p ≡ 1
 
@@ -121,7 +121,7 @@ module _ (p : List ℕ) (s : clear (outerRules p)) (m : clear (messageRules p)) 
         body = by-cases (tcp p) (λ t. let o = offset t in simp t (omega arith)) (λ t. simp t (omega arith));
         whole = omega arith;
         proto = r .some;
-        tcp = λ t. let o = offset t in let q = r .tcp (eqb-true (protocolOf p) 6 t) in (omega arith, simp t (omega arith));
+        tcp = λ t. let o = offset t in let q = r .tcp (eqb-true (protocolOf p) 6 t) in (omega arith, simp t (omega arith), simp (t, carried-byte k 12 (omega arith)));
         udp = λ t.
             let q = r .udp (eqb-true (protocolOf p) 17 t) in
             let n : tcp p ≡ false = ne-eqb (protocolOf p) 6 (λ e. omega (arith, eqb-true (protocolOf p) 17 t)) in

@@ -1,0 +1,79 @@
+-- The field that mender and edits write, and the body that stretches stand in, are where the RFCs put them.
+use mathlib.Core.Path.{_≡_, refl, sym, ap, _∙_}
+use mathlib.Core.Logic.{_⊎_, inl, inr}
+use Prim.Native.Nat.{ℕ, _+_}
+use native.Mathlib.Omega.{arith}
+use mathlib.Core.List.{List}
+use mathlib.Core.Bool.{Bool, true, false, true≢false}
+use borrow.Author.Tests.{eq-eqb, ne-eqb}
+use Rattle.verdicts.specs.Rules.{clear}
+use Rattle.wire.specs.Bytes.{byteAt}
+use Rattle.wire.specs.Outer.{four, versionOf, protocolOf, outerRules}
+use Rattle.wire.specs.Table.{planOf}
+use Rattle.wire.specs.Messages.{shapeRules}
+use Rattle.wire.specs.Inner.{startOf, rowIn, tcp, fieldAt, bodyOf, pseudo, messageRules, wholeRules}
+use Rattle.wire.specs.declared.Row.{Row}
+use Rattle.wire.specs.declared.Row.the-variants.{Uncovered}
+use Rattle.wire.proofs.Facts.{Facts, facts}
+use Rattle.judge.specs.Rfc.{ihl, Stands, tcpHeader, Fields4, Fields6, fieldsByRfc}
+use Rattle.judge.proofs.Accepts.{Shaped, shaped}
+use Rattle.judge.proofs.Covered.{start4, protocol4, start6, protocol6}
+use Rattle.judge.proofs.Protocols.{Line, Kind, icmp, tcp4, udp4, none4, tcp6, udp6, icmp6, none6, plan, kind}
+
+module _ (p : List ℕ) (s : Shaped p) where
+  known : Facts p
+  known = facts p (s .outer) (s .inner)
+
+  -- by the table's line
+  module _ {v n fixed place : ℕ} {summed : Bool} (first : ℕ) (start : startOf p ≡ first) (l : Line p v n (plan fixed place summed)) where
+    field : fieldAt p ≡ first + place
+    unfolding fieldAt
+    field = ap (λ (r : Row). startOf p + planOf r .field) (l .row) ∙ ap (λ x. x + place) start
+
+    before : pseudo p ≡ summed
+    unfolding pseudo
+    before = ap (λ (r : Row). planOf r .pseudo) (l .row)
+
+    plainly : (n ≡ 6 → ⊥) → Stands p first place fixed summed
+    unfolding bodyOf
+    plainly o =
+        let t : tcp p ≡ false = ne-eqb (protocolOf p) 6 (λ e. o (sym (l .protocol) ∙ e)) in
+        (field, simp t (ap (λ (r : Row). startOf p + planOf r .fixed) (l .row) ∙ ap (λ x. x + fixed) start), before)
+
+    by-offset : n ≡ 6 → Stands p first place (tcpHeader p first) summed
+    by-offset e =
+        let t : tcp p ≡ true = eq-eqb (protocolOf p) 6 (l .protocol ∙ e) in
+        (field, known .tcp t .2 ∙ ap (λ x. x + tcpHeader p x) start, before)
+
+  -- IPv4's and IPv6's numbers of what a line says
+  start-at4 : versionOf p ≡ 4 → startOf p ≡ ihl p
+  start-at4 v = start4 p (eq-eqb (versionOf p) 4 v)
+
+  protocol-at4 : {n : ℕ} → versionOf p ≡ 4 → protocolOf p ≡ n → byteAt p 9 ≡ n
+  protocol-at4 v e = sym (protocol4 p (eq-eqb (versionOf p) 4 v)) ∙ e
+
+  not4 : versionOf p ≡ 6 → four p ≡ false
+  not4 v = ne-eqb (versionOf p) 4 (λ e. omega arith)
+
+  protocol-at6 : {n : ℕ} → versionOf p ≡ 6 → protocolOf p ≡ n → byteAt p 6 ≡ n
+  protocol-at6 v e = sym (protocol6 p (not4 v)) ∙ e
+
+  -- a line that covers nothing is none of a packet whose shape nothing refuses
+  uncovered-not : rowIn p ≡ Uncovered → ⊥
+  unfolding messageRules shapeRules
+  uncovered-not e = true≢false (rw e at (s .inner .0))
+
+  fields : Kind p → ((versionOf p ≡ 4) × Fields4 p) ⊎ ((versionOf p ≡ 6) × Fields6 p)
+  fields (icmp l) = let v = l .version in inl (v, inl (protocol-at4 v (l .protocol), plainly (ihl p) (start-at4 v) l (λ e. omega arith)))
+  fields (tcp4 l) = let v = l .version in inl (v, inr (inl (protocol-at4 v (l .protocol), by-offset (ihl p) (start-at4 v) l refl)))
+  fields (udp4 l) = let v = l .version in inl (v, inr (inr (protocol-at4 v (l .protocol), plainly (ihl p) (start-at4 v) l (λ e. omega arith))))
+  fields (none4 l a b c) = absurd (uncovered-not (l .row))
+  fields (icmp6 l) = let v = l .version in inr (v, inl (protocol-at6 v (l .protocol), plainly 40 (start6 p (not4 v)) l (λ e. omega arith)))
+  fields (tcp6 l) = let v = l .version in inr (v, inr (inl (protocol-at6 v (l .protocol), by-offset 40 (start6 p (not4 v)) l refl)))
+  fields (udp6 l) = let v = l .version in inr (v, inr (inr (protocol-at6 v (l .protocol), plainly 40 (start6 p (not4 v)) l (λ e. omega arith))))
+  fields (none6 l a b c) = absurd (uncovered-not (l .row))
+
+-- for every packet whose shape nothing refuses
+pub field-by-rfc : (p : List ℕ) → clear (wholeRules p) → fieldsByRfc p
+unfolding outerRules
+field-by-rfc p w = let s = shaped p w in (refl, fields p s (kind p (s .outer .1 .0)))
