@@ -10,11 +10,11 @@ use lib.Dec.{eqb}
 use borrow.Author.Tests.{eq-eqb}
 use Rattle.verdicts.proofs.Tests.{by-cases}
 use Rattle.wire.specs.Bytes.{part, put, putWord}
-use Rattle.wire.specs.Outer.{startOf, endOf, protocolOf}
-use Rattle.wire.specs.Inner.{fieldAt, bodyOf}
+use Rattle.wire.specs.Outer.{protocolOf}
+use Rattle.wire.specs.Inner.{bodyOf, endOf, fieldAt, startOf}
+use Rattle.wire.proofs.Writes.{Wrote, part-below, put-wrote}
 use Rattle.wire.proofs.Facts.{Facts}
-use Rattle.wire.proofs.Writes.{Wrote, put-wrote, part-below}
-use Rattle.mend.proofs.Tally.{part-length}
+use Rattle.cover.proofs.Tally.{part-length}
 use Rattle.edit.specs.Edits.{allZero, blank}
 
 zero-append : (x y : List ℕ) → allZero (x ++ y) ≡ (allZero x && allZero y)

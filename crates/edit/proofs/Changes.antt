@@ -11,19 +11,17 @@ use borrow.Author.Tests.{ltb-false, eqb-false, eq-eqb, ne-eqb}
 use Rattle.verdicts.specs.Rules.{clear}
 use Rattle.verdicts.proofs.Tests.{by-cases, or-false}
 use Rattle.sums.specs.Total.{weigh}
-use Rattle.wire.specs.Outer.{four, startOf, endOf, protocolOf}
-use Rattle.wire.specs.Inner.{lengthOf, bodyOf, fieldAt, pseudo}
+use Rattle.wire.specs.Outer.{addressesAt, four, headerField, protocolOf}
+use Rattle.wire.specs.Inner.{bodyOf, endOf, fieldAt, lengthOf, pseudo, startOf}
+use Rattle.wire.proofs.Writes.{bytes-wrote, put-wrote, word-above, word-below}
+use Rattle.wire.proofs.Same.{Same, same-self, same-step, soft-header, soft-message}
 use Rattle.wire.specs.Bytes.{part, put, putWord, Bytes}
-use Rattle.wire.specs.Cover.{addressesAt}
-use Rattle.wire.proofs.Writes.{put-wrote, bytes-wrote}
 use Rattle.wire.proofs.Facts.{Facts}
-use Rattle.wire.proofs.Same.{Same, same-self, same-step}
-use Rattle.judge.specs.Sums.{messageTotal}
+use Rattle.cover.specs.Sums.{messageTotal}
 use Rattle.mend.specs.Mend.{Outside}
-use Rattle.mend.proofs.Tally.{tally, weigh-tally}
-use Rattle.mend.proofs.Totals.{addressTally, restTally, message-tally}
-use Rattle.mend.proofs.Blocks.{header-out, message-out, message-address, message-in, message-some, addresses-end}
-use Rattle.mend.proofs.Places.{soft-header, soft-message, word-below, word-above}
+use Rattle.cover.proofs.Tally.{tally, weigh-tally}
+use Rattle.cover.proofs.Totals.{addressTally, restTally, message-tally}
+use Rattle.cover.proofs.Blocks.{header-out, message-out, message-address, message-in, message-some, addresses-end}
 use Rattle.mend.proofs.Fresh.{sameF, header-carry, message-carry, header-self, message-self}
 use Rattle.mend.proofs.Accepted.{Accepted}
 use Rattle.edit.specs.Update.{messageAfter}
@@ -45,7 +43,7 @@ module _ (p : List ℕ) (by : Bytes p) (c : Accepted p) (at : ℕ) (new : List �
       let ends = addresses-end k in
       let low = addresses-low p in
       let w = put-wrote p at new (omega arith) in
-      let s = same-step z w (soft-header k at (length new) (omega arith) (omega arith) (λ f. (omega arith, inr (let e = low .1 f in omega arith)))) in
+      let s = same-step z w (soft-header (k .outer) at (length new) (omega arith) (omega arith) (λ f. (omega arith, inr (let e = low .1 f in omega arith)))) in
       let h = header-step k by s (bytes-wrote w by bn) at new w (omega arith) (λ f. inr (let e = low .1 f in omega arith)) in
       let word = h .word ∙ word-above w (fieldAt p) (omega arith) in
       let apart : (i : ℕ) → at ≤ i → i < at + length new → Outside p i =
@@ -122,7 +120,7 @@ module _ (p : List ℕ) (by : Bytes p) (c : Accepted p) (place : ℕ) where
       (simp (eq-eqb (protocolOf p) 1 (k .plain t), ne-eqb (length new) 0 (λ e. omega arith)) at (r .1 .0)) in
       let at0 : 0 < messageTotal (putWord p (fieldAt p) 0) = by-cases (pseudo p) (λ t. message-some k (sameF k z 0) t) (λ t. unblank k z (blanks t .0) t) in
       let at1 : 0 < messageTotal (putWord (put p at new) (fieldAt p) 0) = by-cases (pseudo p) (λ t. message-some k (sameF k s 0) t) (λ t. unblank k s (blanks t .1) t) in
-      let h = header-carry k z s (header-out k z s w (omega arith)) (word-below w 10 (omega arith)) (header-self p) in
+      let h = header-carry (k .outer) z s (header-out (k .outer) z s w (omega arith)) (word-below w headerField (omega arith)) (header-self p) in
       let m = message-step k by s (bytes-wrote w by bn) (at - startOf p) at new
       (message-in k z s w (at - startOf p) (omega arith) (omega arith)) (word-below w (fieldAt p) (omega arith)) h at0 at1 (c .quiet) in
       record {

@@ -10,8 +10,8 @@ use Rattle.verdicts.specs.declared.Verdict.{Verdict}
 use Rattle.verdicts.specs.declared.Verdict.the-variants.{Missing}
 use Rattle.verdicts.proofs.Tests.{by-cases}
 use Rattle.verdicts.proofs.Rules.{first-append, first-map, first-is, clear-both}
-use Rattle.wire.specs.Outer.{four, six, versionOf, outerRules, fragmentRule}
-use Rattle.wire.specs.Inner.{silentOf, messageOf, messageRules, wholeRules, wholeOf, Holds}
+use Rattle.wire.specs.Outer.{four, fragmentRule, outerRules, six, versionOf}
+use Rattle.wire.specs.Inner.{Holds, messageOf, messageRules, silentOf, wholeOf, wholeRules}
 use Rattle.wire.specs.declared.Message.{Message}
 use Rattle.wire.specs.declared.Part.the-variants.{Refused, Whole}
 use Rattle.wire.proofs.Held.{parted, after-whole, held-whole, held-facts}

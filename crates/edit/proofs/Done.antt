@@ -7,35 +7,36 @@ use mathlib.Core.Bool.{false}
 use lib.ListN.{length}
 use Rattle.sums.specs.Total.{weigh}
 use Rattle.wire.specs.Bytes.{wordAt, part, putWord, odd, Bytes}
-use Rattle.wire.specs.Inner.{udp, fieldAt, silentOf}
-use Rattle.wire.proofs.Writes.{word-wrote, word-small}
+use Rattle.wire.specs.Outer.{headerField}
+use Rattle.wire.specs.Inner.{fieldAt, silentOf, udp}
+use Rattle.wire.proofs.Writes.{word-small, word-wrote}
+use Rattle.wire.proofs.Same.{Same, field-same, four-same, same-self, udp-same}
 use Rattle.wire.proofs.Facts.{Facts}
-use Rattle.wire.proofs.Same.{Same, same-self, four-same, udp-same, field-same}
-use Rattle.judge.specs.Sums.{headerTotal, messageTotal, headerSums, messageSums}
+use Rattle.cover.specs.Sums.{headerTotal, messageTotal, headerSums, messageSums}
 use Rattle.mend.specs.Fresh.{sent, freshHeader}
 use Rattle.mend.proofs.Numbers.{pass-alike, sent-some, block-alike, block-fresh}
-use Rattle.mend.proofs.Blocks.{header-field, message-field, header-some}
-use Rattle.mend.proofs.Fresh.{HeaderKept, MessageKept, write10, writeF, same10, sameF, aside10, asideF, freshF}
+use Rattle.cover.proofs.Blocks.{header-word, message-field, header-some}
+use Rattle.mend.proofs.Fresh.{HeaderKept, MessageKept, writeH, writeF, sameH, sameF, asideH, asideF, freshF}
 use Rattle.edit.specs.Update.{updatedAt}
 
 module _ {p q : List ℕ} (k : Facts p) (by : Bytes p) (a : Same p q) (at : ℕ) (new : List ℕ) where
   pub header-done : headerTotal q + weigh (odd at) (part p at (length new)) ≡ headerTotal p + weigh (odd at) new
-      → wordAt q 10 ≡ wordAt p 10 → HeaderKept p (putWord q 10 (updatedAt p 10 at at new))
+      → wordAt q headerField ≡ wordAt p headerField → HeaderKept p (putWord q headerField (updatedAt p headerField at at new))
   unfolding updatedAt headerSums freshHeader sent
   header-done t e =
-      let v = updatedAt p 10 at at new in
-      let r = putWord q 10 v in
-      let sr = same10 k a v in
-      let f = header-field v k a sr (write10 k a v) in
-      let f' : headerTotal r + wordAt p 10 ≡ headerTotal q + v = rw e at f in
-      let w : wordAt r 10 ≡ v = word-wrote v (write10 k a v) in
+      let v = updatedAt p headerField at at new in
+      let r = putWord q headerField v in
+      let sr = sameH (k .outer) a v in
+      let f = header-word v (k .outer) a sr (writeH (k .outer) a v) in
+      let f' : headerTotal r + wordAt p headerField ≡ headerTotal q + v = rw e at f in
+      let w : wordAt r headerField ≡ v = word-wrote v (writeH (k .outer) a v) in
       let z = same-self p in
-      let x = block-alike (headerTotal p) (headerTotal q) (headerTotal r) _ _ (wordAt p 10) v false (word-small p 10 by) t f' refl in
+      let x = block-alike (headerTotal p) (headerTotal q) (headerTotal r) _ _ (wordAt p headerField) v false (word-small p headerField by) t f' refl in
       record {
-        sums = rw (four-same sr, pass-alike (headerTotal r) (headerTotal p) (header-some k sr) (header-some k z) x);
+        sums = rw (four-same (sr .header), pass-alike (headerTotal r) (headerTotal p) (header-some (k .outer) sr) (header-some (k .outer) z) x);
         fresh = λ g y.
-            w ∙ block-fresh (headerTotal p) (headerTotal q) (headerTotal r) (headerTotal (putWord p 10 0)) (headerTotal (putWord r 10 0)) _ _ (wordAt p 10) v false
-            t f' refl (aside10 k z) (ap (λ n. headerTotal (putWord r 10 0) + n) (sym w) ∙ aside10 k sr) (header-some k (same10 k sr 0)) (g (sym (four-same sr) ∙ y));
+            w ∙ block-fresh (headerTotal p) (headerTotal q) (headerTotal r) (headerTotal (putWord p headerField 0)) (headerTotal (putWord r headerField 0)) _ _ (wordAt p headerField) v false
+            t f' refl (asideH (k .outer) z) (ap (λ n. headerTotal (putWord r headerField 0) + n) (sym w) ∙ asideH (k .outer) sr) (header-some (k .outer) (sameH (k .outer) sr 0)) (g (sym (four-same (sr .header)) ∙ y));
       }
 
   pub message-done : (pos : ℕ) → messageTotal q + weigh (odd pos) (part p at (length new)) ≡ messageTotal p + weigh (odd pos) new
@@ -58,10 +59,10 @@ module _ {p q : List ℕ} (k : Facts p) (by : Bytes p) (a : Same p q) (at : ℕ)
       there r0 v (messageTotal r) (wordAt p (fieldAt p)) (messageTotal q) q0 c f' (ap (λ n. q0 + n) (sym e) ∙ asideF k a) some1 in
       let x = block-alike (messageTotal p) (messageTotal q) (messageTotal r) _ _ (wordAt p (fieldAt p)) v (udp p) (word-small p (fieldAt p) by) t f' refl in
       record {
-        silent = rw (udp-same sr, field-same sr, w) (sent-some (udp p) (updatedAt p (fieldAt p) pos at new)) ∙ sym s;
+        silent = rw (udp-same (sr .header), field-same (sr .header), w) (sent-some (udp p) (updatedAt p (fieldAt p) pos at new)) ∙ sym s;
         sums = λ g. pass-alike (messageTotal r) (messageTotal p) (more r0 v (messageTotal r) c some2) (more _ _ (messageTotal p) z some0) x;
         fresh = λ g u.
-            ap (wordAt r) (field-same sr) ∙ w
+            ap (wordAt r) (field-same (sr .header)) ∙ w
             ∙ block-fresh (messageTotal p) (messageTotal q) (messageTotal r) (messageTotal (putWord p (fieldAt p) 0)) r0 _ _ (wordAt p (fieldAt p)) v (udp p)
             t f' refl z c some2 (g (simp s) ∙ freshF k (same-self p))
             ∙ sym (freshF k sr);

@@ -7,10 +7,10 @@ use Rattle.sums.specs.Total.{weigh}
 use Rattle.sums.specs.Fold.{fold, passes}
 use Rattle.sums.specs.Update.{updated}
 use Rattle.wire.specs.Bytes.{put, odd}
-use Rattle.wire.specs.Outer.{familyOf, startOf, endOf, protocolOf, fragmentOf, outerRules}
+use Rattle.wire.specs.Outer.{familyOf, fragmentOf, outerRules, protocolOf}
+use Rattle.wire.specs.Inner.{endOf, fieldAt, messageRules, pseudo, silentOf, startOf, wholeRules}
 use Rattle.wire.specs.Table.{rowOf}
-use Rattle.wire.specs.Inner.{fieldAt, pseudo, silentOf, messageRules, wholeRules}
-use Rattle.judge.specs.Sums.{headerTotal, messageTotal, headerSums, messageSums}
+use Rattle.cover.specs.Sums.{headerTotal, messageTotal, headerSums, messageSums}
 use Rattle.judge.specs.Judge.{sumRules, judgeRules, judgeOf}
 use Rattle.mend.specs.Fresh.{sent, freshHeader, freshMessage}
 use Rattle.mend.specs.Mend.{mendedHeader, mendedMessage, mendOf}

@@ -16,9 +16,8 @@ use Rattle.sums.specs.Fold.{fold}
 use Rattle.sums.specs.Update.{updated}
 use Rattle.sums.proofs.Folds.{fold-fixed}
 use Rattle.wire.specs.Bytes.{byteAt, wordAt, part, put, putWord, odd}
-use Rattle.wire.specs.Outer.{four, familyOf, startOf}
-use Rattle.wire.specs.Inner.{silentOf, Holds}
-use Rattle.wire.specs.Cover.{addressesAt}
+use Rattle.wire.specs.Outer.{addressesAt, familyOf, four, headerField}
+use Rattle.wire.specs.Inner.{Holds, silentOf, startOf}
 use Rattle.wire.specs.declared.Message.{Message}
 use Rattle.mend.specs.Fresh.{sent}
 use Rattle.edit.specs.Update.{updatedAt, headerAfter, messageAfter, headerPut, messagePut}
@@ -27,7 +26,7 @@ use Rattle.edit.specs.Edits.{lifetimeIn, Addressed, addressLeft}
 -- ---- the fields
 module _ {p : List ℕ} {m : Message} (h : Holds p m) where
   pub header-made : (pos a : ℕ) (new q : List ℕ) (w : ℕ) → odd a ≡ odd pos
-      → w ≡ sent false (updated (wordAt p 10) (fold (weigh (odd pos) (part p a (length new)))) (fold (weigh (odd pos) new)))
+      → w ≡ sent false (updated (wordAt p headerField) (fold (weigh (odd pos) (part p a (length new)))) (fold (weigh (odd pos) new)))
       → headerPut (m .family) q w ≡ headerAfter p a new q
   unfolding headerAfter updatedAt familyOf sent
   header-made = rw (h .is) (λ pos a new q w e ew. by-cases (four p) (λ f. simp f (rw (ew, e))) (λ f. simp f))
@@ -59,15 +58,15 @@ module _ (p : List ℕ) where
   one-less b = ap fold (omega arith) ∙ fold-fixed ((byteAt p 8 - 1) * 256) (omega arith)
 
   pub lowered4 : four p ≡ true → 8 < length p → byteAt p 8 < 256 → 2 ≤ byteAt p 8
-      → (w : ℕ) → w ≡ sent false (updated (wordAt p 10) (byteAt p 8 * 256) ((byteAt p 8 - 1) * 256))
-      → _≡_ {A = Verdict × List ℕ} (Good, putWord (set p 8 (byteAt p 8 - 1)) 10 w) (lifetimeIn p)
+      → (w : ℕ) → w ≡ sent false (updated (wordAt p headerField) (byteAt p 8 * 256) ((byteAt p 8 - 1) * 256))
+      → _≡_ {A = Verdict × List ℕ} (Good, putWord (set p 8 (byteAt p 8 - 1)) headerField w) (lifetimeIn p)
   unfolding headerAfter updatedAt put sent
   lowered4 f n b l w e = rw (e, sym (one-byte n b), sym (one-less b)) (simp (f, le-ltb))
 
 -- ---- the address: the folds of its old and new bytes serve both fields, since all its positions are even
 module _ {p : List ℕ} {m : Message} (h : Holds p m) (a : ℕ) (new : List ℕ) (at : Addressed p a (length new))
     (old fresh w v : ℕ) (eo : old ≡ fold (weigh false (part p a (a + length new - a)))) (en : fresh ≡ fold (weigh false new))
-    (ew : w ≡ sent false (updated (wordAt p 10) old fresh)) (ev : v ≡ sent (eqb (m .protocol) 17) (updated (wordAt p (m .field)) old fresh))
+    (ew : w ≡ sent false (updated (wordAt p headerField) old fresh)) (ev : v ≡ sent (eqb (m .protocol) 17) (updated (wordAt p (m .field)) old fresh))
     (quiet : Bool) (eq : quiet ≡ (eqb (m .protocol) 17 && eqb (wordAt p (m .field)) 0)) where
   even-places : (odd a ≡ false) × (odd (a - addressesAt p) ≡ false)
   unfolding odd
@@ -87,7 +86,7 @@ module _ {p : List ℕ} {m : Message} (h : Holds p m) (a : ℕ) (new : List ℕ)
   header-written : headerPut (m .family) (put p a new) w ≡ headerAfter p a new (put p a new)
   header-written =
       header-made h (a - addressesAt p) a new (put p a new) w (even-places .0 ∙ sym (even-places .1))
-      (ew ∙ ap₂ (λ (x y : ℕ). sent false (updated (wordAt p 10) x y)) old-fold new-fold)
+      (ew ∙ ap₂ (λ (x y : ℕ). sent false (updated (wordAt p headerField) x y)) old-fold new-fold)
 
   -- q has the address written, and r the header's field too
   module _ (q r : List ℕ) (es : q ≡ put p a new) (er : r ≡ headerPut (m .family) q w) where

@@ -12,8 +12,7 @@ use Rattle.verdicts.specs.Rules.{clear}
 use Rattle.verdicts.specs.declared.Verdict.{Verdict}
 use Rattle.verdicts.specs.declared.Verdict.the-variants.{Good, Place}
 use Rattle.verdicts.proofs.Tests.{by-cases}
-use Rattle.wire.specs.Outer.{four}
-use Rattle.wire.specs.Cover.{addressesAt, addressSize, addressesLength}
+use Rattle.wire.specs.Outer.{addressSize, addressesAt, addressesLength, four}
 use Rattle.edit.specs.Edits.{Addressed, sideAt, addressRules, addressLeft, addressIn}
 
 module _ (p : List ℕ) where

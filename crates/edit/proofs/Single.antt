@@ -11,13 +11,13 @@ use Rattle.verdicts.specs.declared.Verdict.the-variants.{Good}
 use Rattle.verdicts.proofs.Rules.{clear-both}
 use Rattle.wire.specs.Bytes.{byteAt, Bytes}
 use Rattle.wire.specs.Outer.{outerRules}
-use Rattle.wire.specs.Inner.{wholeRules, messageRules, bodyOf}
+use Rattle.wire.specs.Inner.{bodyOf, messageRules, wholeRules}
 use Rattle.wire.proofs.Writes.{put-wrote}
-use Rattle.wire.proofs.Same.{four-same, field-same, whole-same}
+use Rattle.wire.proofs.Same.{field-same, four-same, whole-same}
 use Rattle.judge.specs.Judge.{judgeOf}
 use Rattle.mend.specs.Fresh.{HeaderFresh, MessageFresh}
 use Rattle.mend.specs.Mend.{mendOf, Outside}
-use Rattle.mend.proofs.Calls.{Refusals, call-exactly, call-refused, call-clear, call-done, call-either}
+use Rattle.verdicts.proofs.Calls.{Refusals, call-exactly, call-refused, call-clear, call-done, call-either}
 use Rattle.mend.proofs.Accepted.{judge-kept}
 use Rattle.mend.proofs.Mending.{whole-good, mend-fresh}
 use Rattle.edit.specs.Edits.{editRules, lifetimeRules, lifetimeLeft, lifetimeOf, sideAt, addressRules, addressLeft, addressOf, stretchRules, stretchLeft, stretchOf}
@@ -123,5 +123,5 @@ still e p f b =
           let g = mend-fresh p b (whole-good p w) .0 h in
           mend-fresh (made e p) (k .bytes) (whole-good (made e p) (rw (whole-same s) w)) .1 (k .header .fresh (g .0), k .message .fresh (g .1));
       long = s .long;
-      outside = λ i o. record { header = λ g. o .header (sym (four-same s) ∙ g); message = rw (field-same s) (o .message) };
+      outside = λ i o. record { header = λ g. o .header (sym (four-same (s .header)) ∙ g); message = rw (field-same (s .header)) (o .message) };
     })

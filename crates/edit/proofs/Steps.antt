@@ -13,21 +13,19 @@ use Rattle.verdicts.proofs.Rules.{clear-both}
 use Rattle.sums.specs.Total.{weigh}
 use Rattle.sums.specs.Update.{updated}
 use Rattle.wire.specs.Bytes.{byteAt, wordAt, part, put, putWord, odd, Bytes}
-use Rattle.wire.specs.Outer.{four, versionOf, startOf}
-use Rattle.wire.specs.Inner.{udp, fieldAt, silentOf, wholeRules}
-use Rattle.wire.specs.Cover.{addressesAt}
-use Rattle.wire.proofs.Writes.{Wrote, put-wrote, bytes-wrote, bytes-word}
+use Rattle.wire.specs.Outer.{addressesAt, four, headerField, lifetimeAt, versionOf}
+use Rattle.wire.specs.Inner.{fieldAt, silentOf, startOf, udp, wholeRules}
+use Rattle.wire.proofs.Writes.{Wrote, bytes-word, bytes-wrote, put-wrote, word-above, word-below}
+use Rattle.wire.proofs.Same.{Same, four-same, same-self, same-step, soft-header}
 use Rattle.wire.proofs.Facts.{Facts}
-use Rattle.wire.proofs.Same.{Same, same-self, same-step, four-same}
-use Rattle.judge.specs.Sums.{messageTotal, headerSums}
+use Rattle.cover.specs.Sums.{messageTotal, headerSums}
 use Rattle.judge.specs.Judge.{missingRule}
 use Rattle.judge.proofs.Accepts.{shaped}
 use Rattle.mend.specs.Fresh.{sent}
 use Rattle.mend.specs.Mend.{Outside}
 use Rattle.mend.proofs.Numbers.{sent-small}
-use Rattle.mend.proofs.Blocks.{header-in, header-out, message-out}
-use Rattle.mend.proofs.Places.{soft-header, word-below, word-above}
-use Rattle.mend.proofs.Fresh.{HeaderKept, MessageKept, write10, writeF, same10, sameF, header-carry, silent-carry, message-carry, message-self}
+use Rattle.cover.proofs.Blocks.{header-in, header-out, message-out}
+use Rattle.mend.proofs.Fresh.{HeaderKept, MessageKept, writeH, writeF, sameH, sameF, header-carry, silent-carry, message-carry, message-self}
 use Rattle.mend.proofs.Accepted.{Accepted, accepted-whole}
 use Rattle.edit.specs.Update.{updatedAt, headerAfter, messageAfter}
 use Rattle.edit.specs.Edits.{editRules, lifeAt, lowered}
@@ -60,25 +58,25 @@ updated-bytes p f pos at new = omega arith
 
 -- ---- the header's field
 module _ {p q : List ℕ} (k : Facts p) (by : Bytes p) (a : Same p q) (bq : Bytes q) (at : ℕ) (new : List ℕ) (w : Wrote p q at new)
-    (low : at + length new ≤ startOf p) (off : four p ≡ true → (at + length new ≤ 10) ⊎ (12 ≤ at)) where
+    (low : at + length new ≤ startOf p) (off : four p ≡ true → (at + length new ≤ headerField) ⊎ (12 ≤ at)) where
   pub record HeaderStep (r : List ℕ) : Type 0 where
     pub same : Same p r
     pub bytes : Bytes r
     pub kept : HeaderKept p r
     pub total : messageTotal r ≡ messageTotal q
     pub word : wordAt r (fieldAt p) ≡ wordAt q (fieldAt p)
-    pub others : (i : ℕ) → (four p ≡ true → (i < 10) ⊎ (11 < i)) → byteAt r i ≡ byteAt q i
+    pub others : (i : ℕ) → (four p ≡ true → (i < headerField) ⊎ (headerField + 1 < i)) → byteAt r i ≡ byteAt q i
 
-  header-step4 : four p ≡ true → HeaderStep (putWord q 10 (updatedAt p 10 at at new))
+  header-step4 : four p ≡ true → HeaderStep (putWord q headerField (updatedAt p headerField at at new))
   header-step4 f =
-      let v = updatedAt p 10 at at new in
-      let x = write10 k a v in
-      let s = same10 k a v in
+      let v = updatedAt p headerField at at new in
+      let x = writeH (k .outer) a v in
+      let s = sameH (k .outer) a v in
       record {
         same = s;
-        bytes = bytes-wrote x bq (bytes-word v (updated-bytes p 10 at at new));
-        kept = header-done k by a at new (header-in k (same-self p) a w low)
-            (⊎-elim (λ l. word-above w 10 l) (λ l. word-below w 10 l) (off f));
+        bytes = bytes-wrote x bq (bytes-word v (updated-bytes p headerField at at new));
+        kept = header-done k by a at new (header-in (k .outer) (same-self p) a w low)
+            (⊎-elim (λ l. word-above w headerField l) (λ l. word-below w headerField l) (off f));
         total = message-out k a s x (omega arith) (λ t. simp f (omega arith));
         word = word-above x (fieldAt p) (omega arith);
         others = λ i o. ⊎-elim (λ l. x .below i l) (λ l. x .above i (omega arith)) (o f);
@@ -90,7 +88,7 @@ module _ {p q : List ℕ} (k : Facts p) (by : Bytes p) (a : Same p q) (bq : Byte
       record {
         same = a;
         bytes = bq;
-        kept = record { sums = rw (four-same a, f); fresh = λ g h. absurd (true≢false (sym h ∙ four-same a ∙ f)) };
+        kept = record { sums = rw (four-same (a .header), f); fresh = λ g h. absurd (true≢false (sym h ∙ four-same (a .header) ∙ f)) };
         total = refl;
         word = refl;
         others = λ i o. refl;
@@ -120,7 +118,7 @@ module _ {p q : List ℕ} (k : Facts p) (by : Bytes p) (a : Same p q) (bq : Byte
       record {
         same = s;
         bytes = bytes-wrote x bq (bytes-word v (sent-small (udp p) (updatedAt p (fieldAt p) pos at new) (updated-bytes p (fieldAt p) pos at new)));
-        header = header-carry k a s (header-out k a s x (omega arith)) (word-below x 10 (omega arith)) h;
+        header = header-carry (k .outer) a s (header-out (k .outer) a s x (omega arith)) (word-below x headerField (omega arith)) h;
         kept = message-done k by a at new pos total word u some0 some1;
         others = λ i o. ⊎-elim (λ l. x .below i l) (λ l. x .above i (omega arith)) o;
       }
@@ -135,7 +133,7 @@ module _ {p q : List ℕ} (k : Facts p) (by : Bytes p) (a : Same p q) (bq : Byte
         kept = record {
           silent = z;
           sums = λ g. absurd (true≢false (sym u ∙ g));
-          fresh = λ f g. absurd (true≢false (simp (z ∙ u, four-same a ∙ quiet u) at g));
+          fresh = λ f g. absurd (true≢false (simp (z ∙ u, four-same (a .header) ∙ quiet u) at g));
         };
         others = λ i o. refl;
       }
@@ -145,21 +143,21 @@ module _ {p q : List ℕ} (k : Facts p) (by : Bytes p) (a : Same p q) (bq : Byte
   message-step = by-cases (silentOf p) (λ u. simp u (message-silent u)) (λ u. simp u (message-summed u))
 
 -- ---- the lifetime
-life-places : (p : List ℕ) → (7 ≤ lifeAt p) × (lifeAt p ≤ 8) × (lifeAt p + 1 ≤ addressesAt p) × (four p ≡ true → lifeAt p ≡ 8)
+life-places : (p : List ℕ) → (7 ≤ lifetimeAt p) × (lifetimeAt p ≤ 8) × (lifetimeAt p + 1 ≤ addressesAt p) × (four p ≡ true → lifetimeAt p ≡ 8)
 life-places p =
     by-cases (four p)
     (λ f. simp f (omega arith, omega arith, omega arith, λ g. refl))
     (λ f. simp f (omega arith, omega arith, omega arith, λ g. absurd (true≢false (sym g))))
 
 module _ (p : List ℕ) (by : Bytes p) (c : Accepted p) where
-  pub lifetime-step : Kept p (headerAfter p (lifeAt p) (lowered p) (put p (lifeAt p) (lowered p))) (lifeAt p) (lowered p)
+  pub lifetime-step : Kept p (headerAfter p (lifetimeAt p) (lowered p) (put p (lifetimeAt p) (lowered p))) (lifetimeAt p) (lowered p)
   lifetime-step =
       let k = c .facts in
-      let at = lifeAt p in
+      let at = lifetimeAt p in
       let l = life-places p in
       let z = same-self p in
       let w = put-wrote p at (lowered p) (omega arith) in
-      let s = same-step z w (soft-header k at 1 (l .0) (omega arith) (λ f. let e = l .3 f in (omega arith, inl (omega arith)))) in
+      let s = same-step z w (soft-header (k .outer) at 1 (l .0) (omega arith) (λ f. let e = l .3 f in (omega arith, inl (omega arith)))) in
       let b = bytes-wrote w by (lowered-bytes) in
       let h = header-step k by s b at (lowered p) w (omega arith) (λ f. inl (let e = l .3 f in omega arith)) in
       record {
@@ -175,5 +173,5 @@ module _ (p : List ℕ) (by : Bytes p) (c : Accepted p) where
       }
     where
       lowered-bytes : Bytes (lowered p)
-      lowered-bytes zero = omega (arith, by (lifeAt p))
+      lowered-bytes zero = omega (arith, by (lifetimeAt p))
       lowered-bytes (suc i) = omega arith

@@ -10,8 +10,8 @@ use Rattle.verdicts.specs.declared.Verdict.{Verdict}
 use Rattle.verdicts.specs.declared.Verdict.the-variants.{Good, Place, Blank}
 use Rattle.verdicts.proofs.Tests.{by-cases, and-true}
 use Rattle.wire.specs.Bytes.{put}
-use Rattle.wire.specs.Outer.{startOf, endOf, protocolOf}
-use Rattle.wire.specs.Inner.{bodyOf}
+use Rattle.wire.specs.Outer.{protocolOf}
+use Rattle.wire.specs.Inner.{bodyOf, endOf, startOf}
 use Rattle.edit.specs.Update.{messageAfter}
 use Rattle.edit.specs.Edits.{blank, stretchIn}
 

@@ -1,18 +1,19 @@
--- A packet that every edit goes on with, and what keeps the judge's answer on it.
+-- A packet that every edit goes on with, and what keeps the judge's answer on any packet whose header has its shape.
 use mathlib.Core.Path.{_≡_, sym, ap, _∙_}
 use Prim.Native.Nat.{ℕ}
-use mathlib.Core.List.{List, _∷_}
+use mathlib.Core.List.{List, _∷_, _++_}
 use mathlib.Core.Bool.{true, false, not}
-use Rattle.verdicts.specs.Rules.{_⇒_, first, clear}
+use borrow.Author.Tests.{eq-eqb}
+use Rattle.verdicts.specs.Rules.{Rule, _⇒_, first, clear}
 use Rattle.verdicts.specs.declared.Verdict.{Verdict}
 use Rattle.verdicts.specs.declared.Verdict.the-variants.{Good, HeaderSum, Fragment}
-use Rattle.verdicts.proofs.Rules.{first-append}
+use Rattle.verdicts.proofs.Rules.{first-append, first-same, clear-join}
 use Rattle.verdicts.proofs.Tests.{by-cases}
-use Rattle.wire.specs.Outer.{four, six, fragmentOf, outerRules}
+use Rattle.wire.specs.Outer.{four, six, versionOf, fragmentOf, fragmentRule, outerRules}
 use Rattle.wire.specs.Inner.{messageRules, silentOf, wholeRules}
-use Rattle.wire.proofs.Facts.{Facts, facts}
+use Rattle.wire.proofs.Facts.{Facts, facts, outer-facts}
 use Rattle.wire.proofs.Same.{Same, four-same, six-same, outer-same, fragment-same, message-same}
-use Rattle.judge.specs.Sums.{headerSums, messageSums}
+use Rattle.cover.specs.Sums.{headerSums, messageSums}
 use Rattle.judge.specs.Judge.{sumRules, judgeRules, judgeOf}
 use Rattle.judge.proofs.Accepts.{shaped}
 
@@ -31,24 +32,38 @@ accepted-whole p w q = record { whole = w; quiet = q; facts = whole-facts p w }
 abbrev self : Verdict → Verdict
 self v = v
 
-judge-as : (p : List ℕ) → judgeOf p
-    ≡ first (outerRules p) self (first ((not (headerSums p) ⇒ HeaderSum) ∷ (fragmentOf p ⇒ Fragment) ∷ messageRules p) self (first (sumRules p) self Good))
-unfolding judgeOf judgeRules
-judge-as p =
-    first-append (outerRules p) _ self Good
-    ∙ ap (first (outerRules p) self) (first-append ((not (headerSums p) ⇒ HeaderSum) ∷ (fragmentOf p ⇒ Fragment) ∷ messageRules p) (sumRules p) self Good)
+-- the rules between those of the outer shape and those of the message's sum
+abbrev middle : List ℕ → List Rule
+middle p = (not (headerSums p) ⇒ HeaderSum) ∷ (fragmentOf p ⇒ Fragment) ∷ messageRules p
 
-module _ {p q : List ℕ} (c : Accepted p) (s : Same p q) (h : headerSums q ≡ headerSums p) (u : silentOf q ≡ silentOf p)
-    (m : silentOf p ≡ false → messageSums q ≡ messageSums p) where
-  sum-kept : first (sumRules q) self Good ≡ first (sumRules p) self Good
+judge-as : (p : List ℕ) → judgeOf p ≡ first (outerRules p) self (first (middle p) self (first (sumRules p) self Good))
+unfolding judgeOf judgeRules
+judge-as p = first-append (outerRules p) _ self Good ∙ ap (first (outerRules p) self) (first-append (middle p) (sumRules p) self Good)
+
+-- what the message's verdict rests on, where nothing refuses the shape
+pub record Heard (p q : List ℕ) : Type 0 where
+  pub silent : silentOf q ≡ silentOf p
+  pub sums : silentOf p ≡ false → messageSums q ≡ messageSums p
+
+module _ {p q : List ℕ} (s : Same p q) (h : headerSums q ≡ headerSums p) (m : clear (wholeRules p) → Heard p q) where
+  sum-kept : clear (wholeRules p) → first (sumRules q) self Good ≡ first (sumRules p) self Good
   unfolding sumRules
-  sum-kept =
+  sum-kept w =
+      let u = m w in
+      let k = outer-facts p (shaped p w .outer) in
       by-cases (silentOf p)
-      (λ t. by-cases (six p)
-      (λ x. simp (u, six-same s, t, x))
-      (λ x. simp (u, six-same s, four-same s, t, x, c .quiet t)))
-      (λ t. simp (u, t, m t))
+      (λ t. by-cases (four p)
+      (λ f. by-cases (six p)
+      (λ x. simp (u .silent, six-same (s .header), t, x))
+      (λ x. simp (u .silent, six-same (s .header), four-same (s .header), t, x, f)))
+      (λ f. simp (u .silent, six-same (s .header), t, eq-eqb (versionOf p) 6 (k .six f .1))))
+      (λ t. simp (u .silent, t, u .sums t))
 
   -- the layout, the header's sum, and the message's where it has one
   pub judge-kept : judgeOf q ≡ judgeOf p
-  judge-kept = judge-as q ∙ rw (outer-same s, h, fragment-same s, message-same s, sum-kept) (sym (judge-as p))
+  unfolding wholeRules
+  judge-kept =
+      judge-as q
+      ∙ rw (outer-same (s .header) (s .long), h, fragment-same (s .header), message-same s)
+      (first-same (outerRules p) self _ _ (λ c. first-same (middle p) self _ _ (λ d. sum-kept (clear-join (outerRules p) (fragmentRule p ++ messageRules p) c (d .1)))))
+      ∙ sym (judge-as p)

@@ -8,16 +8,15 @@ use mathlib.Core.Bool.{false, _&&_}
 use Rattle.verdicts.proofs.Tests.{by-cases}
 use Rattle.sums.specs.Fold.{fold, fieldOf}
 use Rattle.wire.specs.Bytes.{wordAt, putWord}
-use Rattle.wire.specs.Outer.{four}
-use Rattle.wire.specs.Inner.{udp, fieldAt, silentOf}
+use Rattle.wire.specs.Outer.{four, headerField}
+use Rattle.wire.specs.Inner.{fieldAt, silentOf, udp}
 use Rattle.wire.proofs.Writes.{Wrote, put-wrote}
-use Rattle.wire.proofs.Facts.{Facts}
-use Rattle.wire.proofs.Same.{Same, same-step, four-same, udp-same, field-same, same-self}
-use Rattle.judge.specs.Sums.{headerTotal, messageTotal, headerSums, messageSums}
+use Rattle.wire.proofs.Same.{Same, field-same, four-same, same-self, same-step, silent-at, soft-header, soft-message, udp-same}
+use Rattle.wire.proofs.Facts.{OuterFacts, Facts}
+use Rattle.cover.specs.Sums.{headerTotal, messageTotal, headerSums, messageSums}
 use Rattle.mend.specs.Mend.{mendedHeader}
 use Rattle.mend.specs.Fresh.{sent, freshHeader, freshMessage, HeaderFresh, MessageFresh}
-use Rattle.mend.proofs.Blocks.{header-field, message-field}
-use Rattle.mend.proofs.Places.{soft-header, soft-message}
+use Rattle.cover.proofs.Blocks.{header-word, message-field}
 
 pub record HeaderKept (p q : List ℕ) : Type 0 where
   pub sums : headerSums q ≡ headerSums p
@@ -29,47 +28,50 @@ pub record MessageKept (p q : List ℕ) : Type 0 where
   pub fresh : MessageFresh p → MessageFresh q
 
 -- ---- a word written over a field; a field read as 0000
-module _ {p q : List ℕ} (k : Facts p) (a : Same p q) where
-  pub write10 : (v : ℕ) → Wrote q (putWord q 10 v) 10 (v / 256 ∷ v % 256 ∷ [])
-  write10 v = put-wrote q 10 (v / 256 ∷ v % 256 ∷ []) (let l = a .long in omega arith)
+-- the header's
+module _ {p q : List ℕ} (k : OuterFacts p) (a : Same p q) where
+  pub writeH : (v : ℕ) → Wrote q (putWord q headerField v) headerField (v / 256 ∷ v % 256 ∷ [])
+  writeH v = put-wrote q headerField (v / 256 ∷ v % 256 ∷ []) (let l = a .long in omega arith)
 
+  pub sameH : (v : ℕ) → Same p (putWord q headerField v)
+  sameH v = same-step a (writeH v) (soft-header k headerField 2 (omega arith) (omega arith) (λ f. (omega arith, inr (omega arith))))
+
+  pub asideH : headerTotal (putWord q headerField 0) + wordAt q headerField ≡ headerTotal q
+  asideH = header-word 0 k a (sameH 0) (writeH 0) ∙ omega arith
+
+-- the message's
+module _ {p q : List ℕ} (k : Facts p) (a : Same p q) where
   pub writeF : (v : ℕ) → Wrote q (putWord q (fieldAt p) v) (fieldAt p) (v / 256 ∷ v % 256 ∷ [])
   writeF v = put-wrote q (fieldAt p) (v / 256 ∷ v % 256 ∷ []) (let l = a .long in omega arith)
 
-  pub same10 : (v : ℕ) → Same p (putWord q 10 v)
-  same10 v = same-step a (write10 v) (soft-header k 10 2 (omega arith) (omega arith) (λ f. (omega arith, inr (omega arith))))
-
   pub sameF : (v : ℕ) → Same p (putWord q (fieldAt p) v)
   sameF v = same-step a (writeF v) (soft-message k (fieldAt p) 2 (omega arith))
-
-  pub aside10 : headerTotal (putWord q 10 0) + wordAt q 10 ≡ headerTotal q
-  aside10 = header-field 0 k a (same10 0) (write10 0) ∙ omega arith
 
   pub asideF : messageTotal (putWord q (fieldAt p) 0) + wordAt q (fieldAt p) ≡ messageTotal q
   asideF = message-field 0 k a (sameF 0) (writeF 0) ∙ omega arith
 
   pub freshF : freshMessage q ≡ sent (udp p) (fieldOf (fold (messageTotal (putWord q (fieldAt p) 0))))
   unfolding freshMessage
-  freshF = rw (udp-same a, field-same a)
+  freshF = rw (udp-same (a .header), field-same (a .header))
 
 -- ---- what decides: the totals, and the fields
+module _ {p q r : List ℕ} (k : OuterFacts p) (a : Same p q) (b : Same p r)
+    (t : headerTotal r ≡ headerTotal q) (e : wordAt r headerField ≡ wordAt q headerField) where
+  pub header-fresh : HeaderFresh q → HeaderFresh r
+  unfolding freshHeader
+  header-fresh h f =
+      let x : headerTotal (putWord r headerField 0) ≡ headerTotal (putWord q headerField 0) = omega (arith, asideH k a, asideH k b) in
+      e ∙ h (four-same (a .header) ∙ sym (four-same (b .header)) ∙ f) ∙ ap (λ t. fieldOf (fold t)) (sym x)
+
+  pub header-carry : HeaderKept p q → HeaderKept p r
+  unfolding headerSums
+  header-carry h =
+      let y : headerSums r ≡ headerSums q = rw (four-same (b .header), t, four-same (a .header)) in
+      record { sums = y ∙ h .sums; fresh = λ g. header-fresh (h .fresh g) }
+
 module _ {p q r : List ℕ} (k : Facts p) (a : Same p q) (b : Same p r) where
-  module _ (t : headerTotal r ≡ headerTotal q) (e : wordAt r 10 ≡ wordAt q 10) where
-    pub header-fresh : HeaderFresh q → HeaderFresh r
-    unfolding freshHeader
-    header-fresh h f =
-        let x : headerTotal (putWord r 10 0) ≡ headerTotal (putWord q 10 0) = omega (arith, aside10 k a, aside10 k b) in
-        e ∙ h (four-same a ∙ sym (four-same b) ∙ f) ∙ ap (λ t. fieldOf (fold t)) (sym x)
-
-    pub header-carry : HeaderKept p q → HeaderKept p r
-    unfolding headerSums
-    header-carry h =
-        let y : headerSums r ≡ headerSums q = rw (four-same b, t, four-same a) in
-        record { sums = y ∙ h .sums; fresh = λ g. header-fresh (h .fresh g) }
-
   pub silent-carry : wordAt r (fieldAt p) ≡ wordAt q (fieldAt p) → silentOf r ≡ silentOf q
-  unfolding silentOf
-  silent-carry e = rw (udp-same b, udp-same a, field-same a, field-same b, e)
+  silent-carry e = silent-at b k ∙ rw e (sym (silent-at a k))
 
   module _ (t : messageTotal r ≡ messageTotal q) (e : wordAt r (fieldAt p) ≡ wordAt q (fieldAt p)) where
     pub fresh-carry : freshMessage r ≡ freshMessage q
@@ -80,11 +82,11 @@ module _ {p q r : List ℕ} (k : Facts p) (a : Same p q) (b : Same p r) where
     pub message-carry : MessageKept p q → MessageKept p r
     unfolding messageSums
     message-carry h =
-        let z : (silentOf r && four r) ≡ (silentOf q && four q) = ap₂ _&&_ (silent-carry e) (four-same b ∙ sym (four-same a)) in
+        let z : (silentOf r && four r) ≡ (silentOf q && four q) = ap₂ _&&_ (silent-carry e) (four-same (b .header) ∙ sym (four-same (a .header))) in
         record {
           silent = silent-carry e ∙ h .silent;
           sums = λ s. rw t (h .sums s);
-          fresh = λ g s. ap (wordAt r) (field-same b) ∙ e ∙ ap (wordAt q) (sym (field-same a)) ∙ h .fresh g (sym z ∙ s) ∙ sym fresh-carry;
+          fresh = λ g s. ap (wordAt r) (field-same (b .header)) ∙ e ∙ ap (wordAt q) (sym (field-same (a .header))) ∙ h .fresh g (sym z ∙ s) ∙ sym fresh-carry;
         }
 
 pub header-self : (p : List ℕ) → HeaderKept p p
@@ -94,6 +96,6 @@ pub message-self : (p : List ℕ) → MessageKept p p
 message-self p = record { silent = refl; sums = λ s. refl; fresh = λ g. g }
 
 -- mending the header leaves the layout
-pub mended-same : {p : List ℕ} → Facts p → Same p (mendedHeader p)
+pub mended-same : {p : List ℕ} → OuterFacts p → Same p (mendedHeader p)
 unfolding mendedHeader
-mended-same {p} k = by-cases (four p) (λ f. simp f (same10 k (same-self p) (freshHeader p))) (λ f. simp f (same-self p))
+mended-same {p} k = by-cases (four p) (λ f. simp f (sameH k (same-self p) (freshHeader p))) (λ f. simp f (same-self p))

@@ -10,40 +10,39 @@ use Rattle.verdicts.specs.Rules.{clear}
 use Rattle.verdicts.proofs.Tests.{by-cases, and-true}
 use Rattle.sums.specs.Fold.{fold, fieldOf}
 use Rattle.wire.specs.Bytes.{byteAt, wordAt, putWord, Bytes}
-use Rattle.wire.specs.Outer.{four}
-use Rattle.wire.specs.Inner.{udp, fieldAt, silentOf, wholeRules}
-use Rattle.wire.proofs.Writes.{bytes-wrote, bytes-word, word-wrote}
+use Rattle.wire.specs.Outer.{four, headerField}
+use Rattle.wire.specs.Inner.{fieldAt, silentOf, udp, wholeRules}
+use Rattle.wire.proofs.Writes.{bytes-word, bytes-wrote, word-above, word-below, word-wrote}
+use Rattle.wire.proofs.Same.{silent-at, Same, field-same, four-same, same-self, udp-same}
 use Rattle.wire.proofs.Facts.{Facts}
-use Rattle.wire.proofs.Same.{Same, same-self, four-same, udp-same, field-same}
-use Rattle.judge.specs.Sums.{headerTotal, messageTotal}
+use Rattle.cover.specs.Sums.{headerTotal, messageTotal}
 use Rattle.mend.specs.Fresh.{sent, freshHeader, freshMessage, HeaderFresh, MessageFresh}
 use Rattle.mend.specs.Mend.{mendedHeader, mendedMessage, Outside}
 use Rattle.mend.proofs.Numbers.{sent-some, sent-small}
-use Rattle.mend.proofs.Blocks.{header-out, header-field, message-out, message-field}
-use Rattle.mend.proofs.Places.{word-below, word-above}
-use Rattle.mend.proofs.Fresh.{write10, writeF, same10, sameF, aside10, asideF, freshF, header-fresh, silent-carry, fresh-carry}
+use Rattle.cover.proofs.Blocks.{header-out, header-word, message-out, message-field}
+use Rattle.mend.proofs.Fresh.{writeH, writeF, sameH, sameF, asideH, asideF, freshF, header-fresh, silent-carry, fresh-carry}
 use Rattle.mend.proofs.Accepted.{whole-facts}
 
 -- ---- the header's field set
 record HeaderSet (p q : List ℕ) : Type 0 where
   same : Same p q
   bytes : Bytes p → Bytes q
-  word : four p ≡ true → wordAt q 10 ≡ freshHeader p
+  word : four p ≡ true → wordAt q headerField ≡ freshHeader p
   fresh : HeaderFresh q
   total : messageTotal q ≡ messageTotal p
   field : wordAt q (fieldAt p) ≡ wordAt p (fieldAt p)
-  others : (i : ℕ) → (four p ≡ true → (i < 10) ⊎ (11 < i)) → byteAt q i ≡ byteAt p i
+  others : (i : ℕ) → (four p ≡ true → (i < headerField) ⊎ (headerField + 1 < i)) → byteAt q i ≡ byteAt p i
 
 header-set : {p : List ℕ} → Facts p → HeaderSet p (mendedHeader p)
 unfolding mendedHeader freshHeader
 header-set {p} k =
     let z = same-self p in
     let v = freshHeader p in
-    let w = write10 k z v in
-    let s = same10 k z v in
-    let q = putWord p 10 v in
-    let x : headerTotal (putWord q 10 0) ≡ headerTotal (putWord p 10 0) =
-    omega (arith, aside10 k s, aside10 k z, header-field v k z s w, word-wrote v w) in
+    let w = writeH (k .outer) z v in
+    let s = sameH (k .outer) z v in
+    let q = putWord p headerField v in
+    let x : headerTotal (putWord q headerField 0) ≡ headerTotal (putWord p headerField 0) =
+    omega (arith, asideH (k .outer) s, asideH (k .outer) z, header-word v (k .outer) z s w, word-wrote v w) in
     by-cases (four p)
     (λ f. simp f (record {
       same = s;
@@ -73,11 +72,11 @@ record MessageSet (p q r : List ℕ) : Type 0 where
   fresh : MessageFresh r
   silent : silentOf r ≡ (silentOf q && four q)
   header : HeaderFresh q → HeaderFresh r
-  field : wordAt r 10 ≡ wordAt q 10
+  field : wordAt r headerField ≡ wordAt q headerField
   others : (i : ℕ) → (i < fieldAt p) ⊎ (fieldAt p + 1 < i) → byteAt r i ≡ byteAt q i
 
 message-set : {p q : List ℕ} → Facts p → Same p q → MessageSet p q (mendedMessage q)
-unfolding mendedMessage silentOf
+unfolding mendedMessage
 message-set {p} {q} k a =
     let t = fieldOf (fold (messageTotal (putWord q (fieldAt p) 0))) in
     let v = freshMessage q in
@@ -88,7 +87,7 @@ message-set {p} {q} k a =
     let x : messageTotal (putWord r (fieldAt p) 0) ≡ messageTotal (putWord q (fieldAt p) 0) =
     omega (arith, asideF k s, asideF k a, message-field v k a s w, word-wrote v w) in
     let y : (udp p && eqb v 0) ≡ false = rw e (sent-some (udp p) t) in
-    let silent : silentOf r ≡ false = rw (udp-same s, field-same s, word-wrote v w) y in
+    let silent : silentOf r ≡ false = silent-at s k ∙ rw (word-wrote v w) y in
     by-cases (silentOf q && four q)
     (λ u. simp u (record {
       same = a;
@@ -101,15 +100,15 @@ message-set {p} {q} k a =
       field = refl;
       others = λ i o. refl;
     }))
-    (λ u. simp u (rw (field-same a) (record {
+    (λ u. simp u (rw (field-same (a .header)) (record {
       same = s;
       bytes = λ b. bytes-wrote w b (bytes-word v (rw e (sent-small (udp p) t (omega arith))));
       kept = λ n. absurd (true≢false (sym n ∙ u));
       word = λ n. word-wrote v w;
-      fresh = λ n. ap (wordAt r) (field-same s) ∙ word-wrote v w ∙ e ∙ sym (freshF k s ∙ rw x);
+      fresh = λ n. ap (wordAt r) (field-same (s .header)) ∙ word-wrote v w ∙ e ∙ sym (freshF k s ∙ rw x);
       silent = silent ∙ sym u;
-      header = header-fresh k a s (header-out k a s w (omega arith)) (word-below w 10 (omega arith));
-      field = word-below w 10 (omega arith);
+      header = header-fresh (k .outer) a s (header-out (k .outer) a s w (omega arith)) (word-below w headerField (omega arith));
+      field = word-below w headerField (omega arith);
       others = λ i o. ⊎-elim (λ l. w .below i l) (λ l. w .above i (omega arith)) o;
     })))
 
@@ -117,7 +116,7 @@ message-set {p} {q} k a =
 pub record Mended (p q : List ℕ) : Type 0 where
   pub same : Same p q
   pub bytes : Bytes p → Bytes q
-  pub header : four p ≡ true → wordAt q 10 ≡ freshHeader p
+  pub header : four p ≡ true → wordAt q headerField ≡ freshHeader p
   pub message : (silentOf p && four p) ≡ false → wordAt q (fieldAt p) ≡ freshMessage p
   pub kept : (silentOf p && four p) ≡ true → wordAt q (fieldAt p) ≡ wordAt p (fieldAt p)
   pub fresh : HeaderFresh q × MessageFresh q
@@ -131,7 +130,7 @@ both-set p c =
     let h = header-set k in
     let m = message-set k (h .same) in
     let s : (silentOf (mendedHeader p) && four (mendedHeader p)) ≡ (silentOf p && four p) =
-    ap₂ _&&_ (silent-carry k z (h .same) (h .field)) (four-same (h .same)) in
+    ap₂ _&&_ (silent-carry k z (h .same) (h .field)) (four-same (h .same .header)) in
     record {
       same = m .same;
       bytes = λ b. m .bytes (h .bytes b);

@@ -11,35 +11,39 @@ use lib.ListN.{length}
 use lib.Seq.{set-getD}
 use borrow.Author.Tests.{eqb-false}
 use Rattle.verdicts.specs.Choice.{if_then_else_}
-use Rattle.verdicts.specs.Rules.{clear, Decides}
+use Rattle.verdicts.specs.Rules.{clear, Comes}
 use Rattle.verdicts.specs.declared.Verdict.{Verdict}
 use Rattle.verdicts.specs.declared.Verdict.the-variants.{Good, Unsummed}
 use Rattle.verdicts.proofs.Tests.{by-cases, and-true}
 use Rattle.verdicts.proofs.Rules.{first-either}
+use Rattle.verdicts.proofs.Telling.{told-exactly}
 use Rattle.sums.specs.Fold.{passes}
 use Rattle.wire.specs.Bytes.{byteAt, wordAt, put, putWord, Bytes}
-use Rattle.wire.specs.Outer.{four, outerRules}
-use Rattle.wire.specs.Inner.{messageRules, udp, fieldAt, silentOf, wholeRules}
+use Rattle.wire.specs.Outer.{four, headerField, outerRules}
+use Rattle.wire.specs.Messages.{shapeRules}
+use Rattle.wire.specs.Inner.{fieldAt, messageRules, silentOf, udp, wholeRules}
 use Rattle.wire.proofs.Writes.{word-small}
-use Rattle.wire.proofs.Same.{same-self, four-same, whole-same}
-use Rattle.judge.specs.Sums.{headerTotal, messageTotal, headerSums, messageSums}
+use Rattle.wire.proofs.Same.{silent-at, four-same, same-self, whole-same}
+use Rattle.cover.specs.Sums.{headerTotal, messageTotal, headerSums, messageSums}
 use Rattle.judge.specs.Judge.{judgeOf}
+use Rattle.judge.specs.Cases.{wholeCases}
+use Rattle.judge.proofs.Exactly.{whole-told}
 use Rattle.judge.proofs.Answers.{good, unsummed, sums4, sums6}
 use Rattle.judge.proofs.Accepts.{shaped, accepted, accepting, verdict-good, verdict-unsummed}
 use Rattle.mend.specs.Fresh.{sent, freshHeader, freshMessage, HeaderFresh, MessageFresh}
 use Rattle.mend.specs.Mend.{mendedHeader, mendedMessage, mendOf, Outside, Full}
-use Rattle.mend.proofs.Calls.{call-exactly, call-refused, call-clear, call-done, call-either}
+use Rattle.verdicts.proofs.Calls.{call-answers, call-refused, call-clear, call-done, call-either}
 use Rattle.mend.proofs.Numbers.{sent-passes, passing-fresh}
-use Rattle.mend.proofs.Fresh.{aside10, asideF, freshF}
+use Rattle.mend.proofs.Fresh.{asideH, asideF, freshF}
 use Rattle.mend.proofs.Accepted.{whole-facts}
 use Rattle.mend.proofs.Mended.{Mended, both-set}
 
 -- ---- what it answers, and what it changes
 module _ (p : List ℕ) where
   -- each refusal comes exactly in its case, in the judge's order
-  pub mend-exactly : (v : Verdict) → (mendOf p .0 ≡ v) ↔ Decides (wholeRules p) v
+  pub mend-exactly : (v : Verdict) → (mendOf p .0 ≡ v) ↔ Comes (wholeCases p) v
   unfolding mendOf
-  mend-exactly v = call-exactly (wholeRules p) p (mendedMessage (mendedHeader p)) v
+  mend-exactly v = rw (call-answers (wholeRules p) p (mendedMessage (mendedHeader p))) (told-exactly (wholeRules p) (wholeCases p) (whole-told p) v)
 
   -- an answer other than good leaves the packet as it was
   pub mend-refused : (mendOf p .0 ≡ Good → ⊥) → mendOf p .1 ≡ p
@@ -67,7 +71,7 @@ module _ (p : List ℕ) where
   whole-good c = ap (λ (x : Verdict × List ℕ). x .0) (done c)
 
   mended-clear : mendOf p .0 ≡ Good → clear (wholeRules p)
-  unfolding mendOf wholeRules outerRules messageRules
+  unfolding mendOf wholeRules outerRules messageRules shapeRules
   mended-clear g = call-clear (wholeRules p) p (mendedMessage (mendedHeader p)) (omega arith) g
 
   mended : clear (wholeRules p) → Mended p (mendOf p .1)
@@ -79,7 +83,7 @@ module _ (p : List ℕ) (c : clear (wholeRules p)) (h : HeaderFresh p) (m : Mess
   unfolding freshHeader sent
   header-good =
       by-cases (four p)
-      (λ f. sym (sums4 p f) ∙ rw (sym (aside10 (whole-facts p c) (same-self p)), h f) (sent-passes (headerTotal (putWord p 10 0)) false))
+      (λ f. sym (sums4 p f) ∙ rw (sym (asideH (whole-facts p c .outer) (same-self p)), h f) (sent-passes (headerTotal (putWord p headerField 0)) false))
       (λ f. sym (sums6 p f))
 
   message-good : silentOf p ≡ false → messageSums p ≡ true
@@ -102,7 +106,7 @@ mended-judged p g =
     let c = mended-clear p g in
     let m = mended p c in
     fresh-judged (mendOf p .1) (rw (whole-same (m .same)) c) (m .fresh .0) (m .fresh .1)
-    (λ u. four-same (m .same) ∙ and-true (silentOf p) (four p) (sym (m .silent) ∙ u) .1)
+    (λ u. four-same (m .same .header) ∙ and-true (silentOf p) (four p) (sym (m .silent) ∙ u) .1)
     ∙ ap (λ b. if b then Unsummed else Good) (m .silent)
 
 -- ---- where it changes nothing
@@ -117,7 +121,7 @@ word-put p f b =
 fresh-stands : (p : List ℕ) → Bytes p → HeaderFresh p → MessageFresh p → mendedMessage (mendedHeader p) ≡ p
 unfolding mendedHeader mendedMessage
 fresh-stands p b h m =
-    let e : mendedHeader p ≡ p = by-cases (four p) (λ f. simp f (rw (sym (h f)) (word-put p 10 b))) (λ f. simp f) in
+    let e : mendedHeader p ≡ p = by-cases (four p) (λ f. simp f (rw (sym (h f)) (word-put p headerField b))) (λ f. simp f) in
     ap mendedMessage e
     ∙ by-cases (silentOf p && four p)
     (λ u. simp u)
@@ -128,7 +132,7 @@ pub mend-fresh : (p : List ℕ) → Bytes p → mendOf p .0 ≡ Good → (mendOf
 mend-fresh p b g =
     let c = mended-clear p g in
     let m = mended p c in (
-      λ e. (λ f. ap (λ q. wordAt q 10) (sym e) ∙ m .header f, λ u. ap (λ q. wordAt q (fieldAt p)) (sym e) ∙ m .message u),
+      λ e. (λ f. ap (λ q. wordAt q headerField) (sym e) ∙ m .header f, λ u. ap (λ q. wordAt q (fieldAt p)) (sym e) ∙ m .message u),
       λ f. ap (λ (x : Verdict × List ℕ). x .1) (done p c) ∙ fresh-stands p b (f .0) (f .1),
     )
 
@@ -146,7 +150,7 @@ mended-twice p b =
 
 -- ---- a good packet
 -- every i is a byte of the header's field, of the message's, or of neither
-where-stands : (p : List ℕ) (i : ℕ) → Outside p i ⊎ ((four p ≡ true) × ((i ≡ 10) ⊎ (i ≡ 11))) ⊎ ((i ≡ fieldAt p) ⊎ (i ≡ fieldAt p + 1))
+where-stands : (p : List ℕ) (i : ℕ) → Outside p i ⊎ ((four p ≡ true) × ((i ≡ headerField) ⊎ (i ≡ headerField + 1))) ⊎ ((i ≡ fieldAt p) ⊎ (i ≡ fieldAt p + 1))
 where-stands p i =
     elim (ℕ-discrete i (fieldAt p)) [
       | yes e ↦ inr (inr (inl e))
@@ -155,11 +159,11 @@ where-stands p i =
         | no g ↦
             let m : (i < fieldAt p) ⊎ (fieldAt p + 1 < i) = elim (decLt i (fieldAt p)) [ yes l ↦ inl l | no l ↦ inr (omega arith) ] in
             by-cases (four p)
-            (λ f. elim (ℕ-discrete i 10) [
+            (λ f. elim (ℕ-discrete i headerField) [
               | yes h ↦ inr (inl (f, inl h))
-              | no h ↦ elim (ℕ-discrete i 11) [
+              | no h ↦ elim (ℕ-discrete i (headerField + 1)) [
                 | yes j ↦ inr (inl (f, inr j))
-                | no j ↦ inl (record { header = λ u. elim (decLt i 10) [ yes l ↦ inl l | no l ↦ inr (omega arith) ]; message = m })
+                | no j ↦ inl (record { header = λ u. elim (decLt i headerField) [ yes l ↦ inl l | no l ↦ inr (omega arith) ]; message = m })
               ]
             ])
             (λ f. inl (record { header = λ u. absurd (true≢false (sym u ∙ f)); message = m }))
@@ -179,20 +183,20 @@ zero-bytes : (q : List ℕ) (f i : ℕ) → (i ≡ f) ⊎ (i ≡ f + 1) → word
 zero-bytes q f i w e = ⊎-elim (λ j. ap (byteAt q) j ∙ omega arith) (λ j. ap (byteAt q) j ∙ omega arith) w
 
 module _ (p : List ℕ) (b : Bytes p) (c : clear (wholeRules p)) where
-  header-either : headerSums p ≡ true → four p ≡ true → (wordAt p 10 ≡ freshHeader p) ⊎ ((wordAt p 10 ≡ 65535) × (freshHeader p ≡ 0))
+  header-either : headerSums p ≡ true → four p ≡ true → (wordAt p headerField ≡ freshHeader p) ⊎ ((wordAt p headerField ≡ 65535) × (freshHeader p ≡ 0))
   unfolding freshHeader sent
   header-either s f =
       ⊎-elim inl (λ x. inr (x .1, x .2))
-      (passing-fresh (headerTotal (putWord p 10 0)) (wordAt p 10) false (word-small p 10 b)
-      (ap passes (aside10 (whole-facts p c) (same-self p)) ∙ sums4 p f ∙ s) (λ e. absurd (true≢false (sym e))))
+      (passing-fresh (headerTotal (putWord p headerField 0)) (wordAt p headerField) false (word-small p headerField b)
+      (ap passes (asideH (whole-facts p c .outer) (same-self p)) ∙ sums4 p f ∙ s) (λ e. absurd (true≢false (sym e))))
 
   message-either : silentOf p ≡ false → messageSums p ≡ true
       → (wordAt p (fieldAt p) ≡ freshMessage p) ⊎ ((udp p ≡ false) × (wordAt p (fieldAt p) ≡ 65535) × (freshMessage p ≡ 0))
-  unfolding freshMessage messageSums silentOf
+  unfolding freshMessage messageSums
   message-either u s =
       passing-fresh (messageTotal (putWord p (fieldAt p) 0)) (wordAt p (fieldAt p)) (udp p) (word-small p (fieldAt p) b)
       (ap passes (asideF (whole-facts p c) (same-self p)) ∙ s)
-      (λ e. let n : ¬ (wordAt p (fieldAt p) ≡ 0) = eqb-false (wordAt p (fieldAt p)) 0 (simp e at u) in omega arith)
+      (λ e. let n : ¬ (wordAt p (fieldAt p) ≡ 0) = eqb-false (wordAt p (fieldAt p)) 0 (simp e at (sym (silent-at (same-self p) (whole-facts p c)) ∙ u)) in omega arith)
 
 -- the sums in use pass
 record Passes (p : List ℕ) : Type 0 where
@@ -226,8 +230,8 @@ good-stands p b g i =
     (λ w.
     let e = m .header (w .0) in
     ⊎-elim
-    (λ x. inl (word-bytes p q 10 i b bq (w .1) (e ∙ sym x)))
-    (λ x. inr (inl (w .0, w .1, x .0, x .1), zero-bytes q 10 i (w .1) (e ∙ x .1)))
+    (λ x. inl (word-bytes p q headerField i b bq (w .1) (e ∙ sym x)))
+    (λ x. inr (inl (w .0, w .1, x .0, x .1), zero-bytes q headerField i (w .1) (e ∙ x .1)))
     (header-either p b c (s .header) (w .0)))
     (λ w.
     by-cases (silentOf p && four p)

@@ -10,17 +10,14 @@ use Rattle.verdicts.specs.declared.Verdict.the-variants.{Good}
 use Rattle.sums.specs.Fold.{passes}
 use Rattle.sums.proofs.Unseen.{Apart, changed-passes}
 use Rattle.wire.specs.Bytes.{wordAt, put, putWord}
-use Rattle.wire.specs.Outer.{startOf, endOf}
-use Rattle.wire.specs.Inner.{bodyOf, fieldAt}
-use Rattle.wire.specs.Cover.{coveredOf}
-use Rattle.wire.proofs.Writes.{put-wrote}
-use Rattle.wire.proofs.Same.{Same, same-self, same-step, four-same}
-use Rattle.judge.specs.Sums.{headerTotal, messageTotal, headerSums, messageSums}
+use Rattle.wire.specs.Inner.{bodyOf, coveredOf, endOf, fieldAt, startOf}
+use Rattle.wire.proofs.Writes.{put-wrote, word-above, word-below}
+use Rattle.wire.proofs.Same.{Same, four-same, same-self, same-step, soft-message}
+use Rattle.cover.specs.Sums.{headerTotal, messageTotal, headerSums, messageSums}
 use Rattle.judge.specs.Judge.{judgeOf}
 use Rattle.judge.proofs.Accepts.{shaped, verdict-good}
 use Rattle.judge.proofs.Accepts.{accepted as judge·accepted}
-use Rattle.mend.proofs.Blocks.{header-out, message-word}
-use Rattle.mend.proofs.Places.{soft-message, word-below, word-above}
+use Rattle.cover.proofs.Blocks.{header-out, message-word}
 use Rattle.mend.proofs.Fresh.{silent-carry}
 use Rattle.mend.proofs.Accepted.{Accepted, accepted-whole, judge-kept}
 
@@ -35,7 +32,7 @@ good-message p g =
 sum-tells : {p q : List ℕ} → Accepted p → Same p q → headerTotal q ≡ headerTotal p → wordAt q (fieldAt p) ≡ wordAt p (fieldAt p)
     → messageSums q ≡ messageSums p → judgeOf q ≡ judgeOf p
 unfolding headerSums
-sum-tells {p} c s h e m = judge-kept c s (rw (four-same s, h)) (silent-carry (c .facts) (same-self p) s e) (λ u. m)
+sum-tells {p} c s h e m = judge-kept s (rw (four-same (s .header), h)) (λ w. record { silent = silent-carry (c .facts) (same-self p) s e; sums = λ u. m })
 
 -- new bytes in the body of a good packet leave it good exactly when the covered block's total is not 0 and differs from the
 -- one before by a multiple of 65535
@@ -50,7 +47,7 @@ body-changed-unseen p at new g low high =
     let s = same-step z w (soft-message k at (length new) (omega arith)) in
     let x = changed-passes (coveredOf p) (coveredOf (put p at new)) (a .1) in (
       λ j. x .0 (good-message (put p at new) j .1),
-      λ j. sum-tells (a .0) s (header-out k z s w (omega arith)) (word-below w (fieldAt p) (omega arith)) (x .1 j ∙ sym (a .1)) ∙ g,
+      λ j. sum-tells (a .0) s (header-out (k .outer) z s w (omega arith)) (word-below w (fieldAt p) (omega arith)) (x .1 j ∙ sym (a .1)) ∙ g,
     )
 
 -- ---- words of the body at an even distance from the message's start, and so from the covered block's, since a
@@ -84,5 +81,5 @@ exchanged-words-unseen p i j g low next high even even' =
     let first = message-word x k z s i (omega arith) even (omega arith) u in
     let second = message-word y k s r j (omega arith) even' high v in
     let total : messageTotal (putWord q j y) ≡ messageTotal p = omega (arith, word-above u j (omega arith)) in
-    sum-tells c r (header-out k s r v (omega arith) ∙ header-out k z s u (omega arith))
+    sum-tells c r (header-out (k .outer) s r v (omega arith) ∙ header-out (k .outer) z s u (omega arith))
     (word-below v (fieldAt p) (omega arith) ∙ word-below u (fieldAt p) (omega arith)) (ap passes total) ∙ g

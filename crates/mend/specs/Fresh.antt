@@ -7,16 +7,16 @@ use lib.Dec.{eqb}
 use Rattle.sums.specs.Fold.{fold, fieldOf}
 use Rattle.verdicts.specs.Choice.{if_then_else_}
 use Rattle.wire.specs.Bytes.{wordAt, putWord}
-use Rattle.wire.specs.Outer.{four}
+use Rattle.wire.specs.Outer.{four, headerField}
 use Rattle.wire.specs.Inner.{fieldAt, udp, silentOf}
-use Rattle.judge.specs.Sums.{headerTotal, messageTotal}
+use Rattle.cover.specs.Sums.{headerTotal, messageTotal}
 
 -- a UDP field of 0000 is sent as FFFF
 unfoldable pub sent : Bool → ℕ → ℕ
 sent udp w = if udp && eqb w 0 then 65535 else w
 
 unfoldable pub freshHeader : List ℕ → ℕ
-freshHeader p = fieldOf (fold (headerTotal (putWord p 10 0)))
+freshHeader p = fieldOf (fold (headerTotal (putWord p headerField 0)))
 
 unfoldable pub freshMessage : List ℕ → ℕ
 freshMessage p = sent (udp p) (fieldOf (fold (messageTotal (putWord p (fieldAt p) 0))))
@@ -24,7 +24,7 @@ freshMessage p = sent (udp p) (fieldOf (fold (messageTotal (putWord p (fieldAt p
 -- ---- what the theorems speak of: a field in use stands as fresh computation would set it
 -- the header's, in IPv4
 abbrev pub HeaderFresh : List ℕ → Type 0
-HeaderFresh p = four p ≡ true → wordAt p 10 ≡ freshHeader p
+HeaderFresh p = four p ≡ true → wordAt p headerField ≡ freshHeader p
 
 -- the message's, unless it is UDP's 0000 over IPv4
 abbrev pub MessageFresh : List ℕ → Type 0

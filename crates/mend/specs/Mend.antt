@@ -9,13 +9,13 @@ use Rattle.verdicts.specs.Rules.{first}
 use Rattle.verdicts.specs.declared.Verdict.{Verdict}
 use Rattle.verdicts.specs.declared.Verdict.the-variants.{Good}
 use Rattle.wire.specs.Bytes.{wordAt, putWord}
-use Rattle.wire.specs.Outer.{four}
+use Rattle.wire.specs.Outer.{four, headerField}
 use Rattle.wire.specs.Inner.{fieldAt, udp, silentOf, wholeRules}
 use Rattle.mend.specs.Fresh.{freshHeader, freshMessage}
 
 -- IPv6 has no header field
 unfoldable pub mendedHeader : List ℕ → List ℕ
-mendedHeader p = if four p then putWord p 10 (freshHeader p) else p
+mendedHeader p = if four p then putWord p headerField (freshHeader p) else p
 
 -- UDP over IPv4 keeps 0000
 unfoldable pub mendedMessage : List ℕ → List ℕ
@@ -28,11 +28,11 @@ mendOf p = first (wholeRules p) (λ v. (v, p)) (Good, mendedMessage (mendedHeade
 -- ---- what the theorems speak of
 -- i is no byte of a sum field
 pub record Outside (p : List ℕ) (i : ℕ) : Type 0 where
-  pub header : four p ≡ true → (i < 10) ⊎ (11 < i)
+  pub header : four p ≡ true → (i < headerField) ⊎ (headerField + 1 < i)
   pub message : (i < fieldAt p) ⊎ (fieldAt p + 1 < i)
 
 -- i is a byte of a field other than UDP's that stands at FFFF where the fresh one is 0000
 abbrev pub Full : List ℕ → ℕ → Type 0
 Full p i =
-    ((four p ≡ true) × ((i ≡ 10) ⊎ (i ≡ 11)) × (wordAt p 10 ≡ 65535) × (freshHeader p ≡ 0))
+    ((four p ≡ true) × ((i ≡ headerField) ⊎ (i ≡ headerField + 1)) × (wordAt p headerField ≡ 65535) × (freshHeader p ≡ 0))
     ⊎ ((udp p ≡ false) × ((i ≡ fieldAt p) ⊎ (i ≡ fieldAt p + 1)) × (wordAt p (fieldAt p) ≡ 65535) × (freshMessage p ≡ 0))

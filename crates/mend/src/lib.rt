@@ -3,7 +3,7 @@
 // A mended packet is judged good whatever its bytes say, so mend only what was made or checked here: a relay that
 // mends what it received puts a good sum on damaged bytes.
 use sums::Field;
-use sums::Partial;
+use sums::Fold;
 use verdicts::Verdict;
 use wire::Family;
 use wire::Message;
@@ -12,7 +12,8 @@ ghost use mathlib.Core.Path.{_≡_};
 ghost use mathlib.Core.Bool.{_&&_};
 ghost use Prim.Native.Nat.{_+_, _-_, _%_, _≤_};
 ghost use lib.ListN.{length};
-ghost use Rattle.sums.specs.Partials.{partialOf};
+ghost use Rattle.sums.specs.Total.{total};
+ghost use Rattle.sums.specs.Fold.{fold};
 ghost use Rattle.wire.specs.Bytes.{part, putWord};
 ghost use Rattle.wire.specs.Outer.{four};
 ghost use Rattle.wire.specs.Inner.{silentOf, Holds};
@@ -78,17 +79,17 @@ fn fresh_header(packet: &[u8], m: Message) -> Field
     requires { ⌜ Holds (now packet) m ⌝ }
     ensures { λ r. ⌜ r .0 ≡ freshHeader (now (packet .entry)) ⌝ }
 {
-    let s = sum_without(packet, 0, wire::HEADER_FIELD, m.start);
-    sums::field_of(s.fold)
+    sums::field_of(fold_without(packet, 0, wire::HEADER_FIELD, m.header))
 }
 
 fn fresh_message(packet: &[u8], m: Message) -> Field
     requires { ⌜ Holds (now packet) m ⌝ }
     ensures { λ r. ⌜ r .0 ≡ freshMessage (now (packet .entry)) ⌝ }
 {
-    let before = judge::pseudo_sum(packet, m);
-    let s = sums::join(before, sum_without(packet, m.start, m.field, m.end));
-    sent(m.protocol == wire::UDP, sums::field_of(s.fold))
+    let before = cover::pseudo_sum(packet, m);
+    let message = fold_without(packet, m.start, m.field, m.end);
+    let fresh = sums::field_of(sums::add(before, message));
+    sent(m.protocol == wire::UDP, fresh)
 }
 
 // A computed field as it is written: UDP's 0000 becomes FFFF.
@@ -103,14 +104,14 @@ pub fn sent(udp: bool, f: Field) -> Field
     f
 }
 
-// The partial sum of the bytes from start to end, with the word at field read as 0000.
-fn sum_without(packet: &[u8], start: usize, field: usize, end: usize) -> Partial
+// The fold of the bytes from start to end, with the word at field, an even distance from start, read as 0000.
+fn fold_without(packet: &[u8], start: usize, field: usize, end: usize) -> Fold
     requires { ⌜ (start ≤ field) × ((field - start) % 2 ≡ 0) × (field + 2 ≤ end) × (end ≤ length (now packet)) ⌝ }
-    ensures { λ r. ⌜ r ≡ partialOf (part (putWord (now (packet .entry)) field 0) start (end - start)) ⌝ }
+    ensures { λ r. ⌜ r .0 ≡ fold (total (part (putWord (now (packet .entry)) field 0) start (end - start))) ⌝ }
 {
     let after = field + 2;
-    sums::join(
-        sums::sum(&packet[start..field]),
-        sums::sum(&packet[after..end]),
+    sums::add(
+        sums::fold_at(&packet[start..field], false),
+        sums::fold_at(&packet[after..end], false),
     )
 }

@@ -8,7 +8,7 @@ use lib.Dec.{eqb}
 use denote.Ref.{now}
 use Rattle.wire.specs.Bytes.{wordAt}
 use Rattle.wire.specs.Outer.{familyOf}
-use Rattle.wire.specs.Inner.{silentOf, wholeOf, Holds}
+use Rattle.wire.specs.Inner.{Holds, silentOf, wholeOf}
 use Rattle.wire.specs.declared.Message.{Message}
 use Rattle.wire.specs.declared.Part.the-variants.{Whole}
 use Rattle.wire.proofs.Held.{held-whole, held-facts, is-four, is-six}

@@ -4,12 +4,11 @@ use Prim.Native.Nat.{ℕ, _+_, _≤_}
 use native.Mathlib.Omega.{arith}
 use mathlib.Core.List.{List}
 use denote.Ref.{now}
-use Rattle.wire.specs.Outer.{startOf}
-use Rattle.wire.specs.Inner.{fieldAt}
-use Rattle.wire.specs.Cover.{addressesAt, addressesLength}
+use Rattle.wire.specs.Outer.{addressesAt, addressesLength}
+use Rattle.wire.specs.Inner.{fieldAt, startOf}
 use Rattle.wire.proofs.Facts.{Facts}
 use Rattle.wire.proofs.Held.{held-facts}
-use Rattle.mend.proofs.Blocks.{addresses-end}
+use Rattle.cover.proofs.Blocks.{addresses-end}
 use Rattle.edit.proofs.Made.{address-made, address-plain}
 use borrow.Author.Needs.{needs}
 use Rattle.edit.proofs.put_address.Statement.{statement}

@@ -4,8 +4,7 @@ use Prim.Native.Nat.{ℕ}
 use native.Mathlib.Omega.{arith}
 use mathlib.Core.List.{List}
 use denote.Ref.{now}
-use Rattle.wire.specs.Outer.{startOf}
-use Rattle.wire.specs.Inner.{fieldAt}
+use Rattle.wire.specs.Inner.{fieldAt, startOf}
 use Rattle.wire.proofs.Facts.{Facts}
 use Rattle.wire.proofs.Held.{held-facts}
 use Rattle.edit.proofs.Made.{stretch-made}

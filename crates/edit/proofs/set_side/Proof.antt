@@ -6,7 +6,7 @@ use mathlib.Core.List.{List}
 use denote.Ref.{now}
 use Rattle.verdicts.specs.declared.Verdict.the-variants.{Good}
 use Rattle.wire.proofs.Held.{held-facts}
-use Rattle.mend.proofs.Blocks.{addresses-end}
+use Rattle.cover.proofs.Blocks.{addresses-end}
 use Rattle.edit.proofs.Sides.{other-side, other-size, source-set, destination-set, source-at, destination-at}
 use borrow.Author.Needs.{needs}
 use Rattle.edit.proofs.set_side.Statement.{statement}

@@ -8,8 +8,8 @@ use lib.Dec.{eqb}
 use denote.Ref.{now}
 use Rattle.verdicts.specs.declared.Verdict.the-variants.{Good}
 use Rattle.wire.specs.Bytes.{put}
-use Rattle.wire.specs.Outer.{startOf, endOf, protocolOf}
-use Rattle.wire.specs.Inner.{bodyOf, Holds}
+use Rattle.wire.specs.Outer.{protocolOf}
+use Rattle.wire.specs.Inner.{Holds, bodyOf, endOf, startOf}
 use Rattle.wire.specs.declared.Message.{Message}
 use Rattle.wire.specs.declared.Part.the-variants.{Whole}
 use Rattle.wire.proofs.Facts.{Facts}

@@ -5,8 +5,7 @@ use native.Mathlib.Omega.{arith}
 use mathlib.Core.List.{List}
 use denote.Ref.{now}
 use Rattle.sums.specs.Fold.{fieldOf}
-use Rattle.sums.specs.declared.Partial.{Partial}
-use Rattle.wire.specs.Outer.{startOf}
+use Rattle.wire.specs.Outer.{headerEnd}
 use Rattle.wire.specs.declared.Message.{Message}
 use Rattle.wire.proofs.Held.{held-facts}
 use Rattle.mend.proofs.Without.{header-without}
@@ -17,19 +16,19 @@ use Rattle.mend.proofs.fresh_header.Tie as tie
 abbrev P : tie.Start → List ℕ
 P c = now (c .args .packet)
 
-start : (c : tie.Start) → c .args .m .start ≡ startOf (P c)
-start c = ap (λ (m : Message). m .start) (c .pre .is)
+end : (c : tie.Start) → c .args .m .header ≡ headerEnd (P c)
+end c = ap (λ (m : Message). m .header) (c .pre .is)
 
 returns : tie.Need-returns
 returns c =
     let b = c .before .before .before in
-    c .field-of .ensures ∙ ap (λ (s : Partial). fieldOf (s .fold .0)) (c .before .sum-without .ensures)
-    ∙ header-without (P b) (held-facts (b .pre)) _ (start b)
+    c .field-of .ensures ∙ ap fieldOf (c .before .fold-without .ensures)
+    ∙ header-without (P b) (held-facts (b .pre)) _ (end b)
 
 pub fresh-header-spec : {M : Type 1} → statement M
 fresh-header-spec =
     tie.close
     (tie.spec
-    (λ c κs. let f = held-facts (c .before .pre) in let e = start (c .before) in omega arith)
+    (λ c κs. let f = held-facts (c .before .pre) in let e = end (c .before) in omega arith)
     (λ c κs. search needs)
     returns)

@@ -6,9 +6,8 @@ use mathlib.Core.List.{List}
 use lib.Dec.{eqb}
 use denote.Ref.{now}
 use Rattle.sums.specs.Fold.{fieldOf}
-use Rattle.sums.specs.declared.Partial.{Partial}
-use Rattle.wire.specs.Outer.{startOf, endOf, protocolOf}
-use Rattle.wire.specs.Inner.{fieldAt}
+use Rattle.wire.specs.Outer.{protocolOf}
+use Rattle.wire.specs.Inner.{endOf, fieldAt, startOf}
 use Rattle.wire.proofs.Held.{held-facts}
 use Rattle.mend.specs.Fresh.{freshMessage}
 use Rattle.mend.specs.Fresh.{sent as Fresh·sent}
@@ -35,13 +34,13 @@ even c = let k = known c in rw (k .field, k .start) (held-facts (c .pre) .even)
 returns : tie.Need-returns
 unfolding freshMessage
 returns c =
-    let b = c .before .before .before .before .before .before .before in
+    let f = c .before .before .before .before in
+    let b = f .before .before .before in
     let k = known b in
-    let t = message-without (P b) (held-facts (b .pre)) _ _ _ _ _ (k .start) (k .end) (k .field)
-    (c .before .before .before .before .before .pseudo-sum .ensures) (c .before .before .before .before .sum-without .ensures) in
+    let t = message-without (P b) (held-facts (b .pre)) _ _ _ _ _ (k .start) (k .end) (k .field) (f .before .pseudo-sum .ensures) (f .fold-without .ensures) in
     c .sent .ensures
     ∙ ap₂ Fresh·sent (ap (λ (n : ℕ). eqb n 17) (k .protocol))
-    (c .before .field-of .ensures ∙ ap fieldOf (ap (λ (x : Partial). x .fold .0) (c .before .before .before .join .ensures) ∙ t))
+    (c .before .before .field-of .ensures ∙ ap fieldOf (c .before .before .before .add .ensures ∙ t))
 
 pub fresh-message-spec : {M : Type 1} → statement M
 fresh-message-spec =

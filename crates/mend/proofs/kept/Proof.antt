@@ -3,15 +3,12 @@ use mathlib.Core.Path.{_≡_, _∙_, sym, ap}
 use Prim.Native.Nat.{ℕ}
 use native.Mathlib.Omega.{arith}
 use mathlib.Core.List.{List}
-use mathlib.Core.Bool.{_&&_}
-use lib.Dec.{eqb}
 use denote.Ref.{now}
 use Rattle.verdicts.proofs.Tests.{by-cases}
-use Rattle.wire.specs.Bytes.{wordAt}
 use Rattle.wire.specs.Outer.{familyOf}
-use Rattle.wire.specs.Inner.{silentOf, fieldAt}
+use Rattle.wire.specs.Inner.{fieldAt, silentOf}
 use Rattle.wire.specs.declared.Message.{Message}
-use Rattle.wire.proofs.Held.{held-facts, is-four, is-six}
+use Rattle.wire.proofs.Held.{held-facts, held-silent, is-four, is-six}
 use borrow.Author.Needs.{needs}
 use Rattle.mend.proofs.kept.Statement.{statement}
 use Rattle.mend.proofs.kept.Tie as tie
@@ -26,11 +23,10 @@ field : (c : tie.Start) → c .args .m .field ≡ fieldAt (P c)
 field c = ap (λ (m : Message). m .field) (c .pre .is)
 
 returns : tie.Need-returns
-unfolding silentOf
 returns c =
     let b = c .before .before .before .before in
     let f = is-four (P b) (sym (family b) ∙ c .before .enum-told .given .1) in
-    c .silent .ensures ∙ ap (λ (m : Message). eqb (m .protocol) 17 && eqb (wordAt (P b) (m .field)) 0) (b .pre .is)
+    c .silent .ensures ∙ held-silent (b .pre)
     ∙ by-cases (silentOf (P b)) (λ u. u ∙ sym (simp (u, f))) (λ u. u ∙ sym (simp u))
 
 returns-2 : tie.Need-returns-2

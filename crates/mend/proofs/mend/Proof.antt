@@ -4,11 +4,11 @@ use Prim.Native.Nat.{ℕ}
 use mathlib.Core.List.{List}
 use denote.Ref.{now}
 use Rattle.verdicts.specs.declared.Verdict.the-variants.{Good}
-use Rattle.wire.specs.Inner.{wholeOf, Holds}
+use Rattle.wire.specs.Inner.{Holds, wholeOf}
+use Rattle.wire.proofs.Same.{holds-same}
 use Rattle.wire.specs.declared.Message.{Message}
 use Rattle.wire.specs.declared.Part.the-variants.{Whole}
 use Rattle.wire.proofs.Held.{by-whole, held-whole, held-facts}
-use Rattle.wire.proofs.Same.{holds-same}
 use Rattle.mend.specs.Mend.{mendedMessage, mendOf}
 use Rattle.mend.proofs.Fresh.{mended-same}
 use borrow.Author.Needs.{needs}
@@ -30,7 +30,7 @@ holds c = held-whole (P c) (M c) (whole c) .holds
 mend-message-requires : tie.Need-mend-message-requires
 mend-message-requires c κs =
     let d = c .before .before .before .before .before .before in
-    rw (c .before .before .before .mend-header .ensures) (holds-same (mended-same (held-facts (holds d))) (holds d))
+    rw (c .before .before .before .mend-header .ensures) (holds-same (mended-same (held-facts (holds d) .outer)) (holds d))
 
 returns : tie.Need-returns
 unfolding mendOf

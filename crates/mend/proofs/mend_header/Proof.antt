@@ -5,7 +5,7 @@ use native.Mathlib.Omega.{arith}
 use mathlib.Core.List.{List}
 use denote.Ref.{now}
 use Rattle.wire.specs.Bytes.{putWord}
-use Rattle.wire.specs.Outer.{familyOf}
+use Rattle.wire.specs.Outer.{familyOf, headerField}
 use Rattle.wire.specs.declared.Message.{Message}
 use Rattle.wire.proofs.Held.{held-facts, is-four, is-six}
 use Rattle.mend.specs.Mend.{mendedHeader}
@@ -25,7 +25,7 @@ returns c =
     let d = c .before .before .before .before in
     let b = d .before .before .before .before .before in
     c .before .before .put-word .ensures
-    ∙ ap (λ (w : ℕ). putWord (P b) 10 w) (d .fresh-header .ensures)
+    ∙ ap (λ (w : ℕ). putWord (P b) headerField w) (d .fresh-header .ensures)
     ∙ sym (simp (is-four (P b) (sym (family b) ∙ d .before .before .enum-told .given .1)))
 
 returns-2 : tie.Need-returns-2

@@ -9,8 +9,8 @@ use lib.ListN.{length}
 use lib.Dec.{eqb}
 use denote.Ref.{now}
 use Rattle.wire.specs.Bytes.{part, put}
-use Rattle.wire.specs.Outer.{startOf, endOf, protocolOf}
-use Rattle.wire.specs.Inner.{fieldAt}
+use Rattle.wire.specs.Outer.{protocolOf}
+use Rattle.wire.specs.Inner.{endOf, fieldAt, startOf}
 use Rattle.wire.proofs.Facts.{Facts}
 use Rattle.wire.proofs.Held.{held-facts}
 use Rattle.edit.specs.Edits.{allZero, blank}
