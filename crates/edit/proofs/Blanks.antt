@@ -4,46 +4,21 @@ use mathlib.Core.Path.{_≡_, refl, sym, ap, ap₂, _∙_}
 use mathlib.Core.Bool.{Bool, true, false, _&&_, _||_}
 use mathlib.Core.List.{List, [], _∷_, _++_}
 use native.Mathlib.Omega.{arith}
-use lib.ListN.{length, drop}
-use lib.Seq.{take-add, drop-drop, getD-take, getD-drop, ext-getD}
+use lib.ListN.{length}
 use lib.Dec.{eqb}
 use borrow.Author.Tests.{eq-eqb}
 use Rattle.verdicts.proofs.Tests.{by-cases}
 use Rattle.wire.specs.Bytes.{part, put, putWord}
 use Rattle.wire.specs.Outer.{protocolOf}
 use Rattle.wire.specs.Inner.{bodyOf, endOf, fieldAt, startOf}
-use Rattle.wire.proofs.Writes.{Wrote, part-below, put-wrote}
+use Rattle.wire.proofs.Parts.{part-cut}
+use Rattle.wire.proofs.Writes.{put-wrote, part-below, part-above, part-they}
 use Rattle.wire.proofs.Facts.{Facts}
-use Rattle.cover.proofs.Tally.{part-length}
-use Rattle.edit.specs.Edits.{allZero, blank}
+use Rattle.kept.specs.Edits.{allZero, blank}
 
 zero-append : (x y : List ℕ) → allZero (x ++ y) ≡ (allZero x && allZero y)
 zero-append [] y = refl
 zero-append (a ∷ x) y = by-cases (eqb a 0) (λ t. simp t (zero-append x y)) (λ t. simp t)
-
--- a part in two
-part-cut : (p : List ℕ) (a b c : ℕ) → a ≤ b → b ≤ c → part p a (c - a) ≡ part p a (b - a) ++ part p b (c - b)
-part-cut p a b c h k =
-    let e : c - a ≡ (b - a) + (c - b) = omega arith in
-    let f : a + (b - a) ≡ b = omega arith in
-    rw e (take-add (b - a) (c - b) (drop a p) ∙ rw (drop-drop (b - a) a p, f))
-
-module _ {p q : List ℕ} {at : ℕ} {new : List ℕ} (w : Wrote p q at new) where
-  part-above : (a n : ℕ) → at + length new ≤ a → a + n ≤ length p → part q a n ≡ part p a n
-  part-above a n h l =
-      ext-getD 0 (part q a n) (part p a n) (part-length q a n (let e = w .long in omega arith) ∙ sym (part-length p a n l))
-      (λ i g.
-      let k : i < n = omega (arith, part-length q a n (let e = w .long in omega arith)) in
-      getD-take n (drop a q) i 0 k ∙ getD-drop a q i 0 ∙ w .above (a + i) (omega arith) ∙ sym (getD-drop a p i 0) ∙ sym (getD-take n (drop a p) i 0 k))
-
-  part-they : at + length new ≤ length p → part q at (length new) ≡ new
-  part-they l =
-      let n = length new in
-      let e = part-length q at n (let e = w .long in omega arith) in
-      ext-getD 0 (part q at n) new e
-      (λ i g.
-      let k : i < n = omega arith in
-      getD-take n (drop at q) i 0 k ∙ getD-drop at q i 0 ∙ w .inside i (at + i) refl k)
 
 -- a block with the word at f read as 0000 is zeros where what stands before it and what follows it are
 zero-without : (p : List ℕ) (a f e : ℕ) → a ≤ f → f + 2 ≤ e → e ≤ length p

@@ -16,7 +16,8 @@ use Rattle.wire.specs.declared.Message.{Message}
 use Rattle.wire.specs.declared.Part.the-variants.{Refused, Whole}
 use Rattle.wire.proofs.Held.{parted, after-whole, held-whole, held-facts}
 use Rattle.judge.specs.Judge.{missingRule}
-use Rattle.edit.specs.Edits.{editRules, editableOf}
+use Rattle.kept.specs.Edits.{editRules}
+use Rattle.edit.specs.Steps.{editableOf}
 
 -- ---- each answer of `editableOf`
 editable-as : (p : List ℕ) → editableOf p ≡ parted Refused (first (missingRule p) Refused (Whole (messageOf p))) (wholeOf p)
@@ -29,7 +30,7 @@ refused-whole p v e = simp (editable-as, sym e)
 module _ (p : List ℕ) (m : Message) (e : Whole m ≡ wholeOf p) where
   pub missing6 : four p ≡ false → silentOf p ≡ true → Refused Missing ≡ editableOf p
   missing6 f s =
-      let six : six p ≡ true = eq-eqb (versionOf p) 6 (held-facts (held-whole p m e .holds) .six f .1) in
+      let six : six p ≡ true = eq-eqb (versionOf p) 6 (held-facts (held-whole p m e .holds) .outer .six f .1) in
       simp (editable-as, sym e, s, six)
 
   pub summed6 : silentOf p ≡ false → Whole m ≡ editableOf p

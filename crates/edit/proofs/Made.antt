@@ -19,9 +19,12 @@ use Rattle.wire.specs.Bytes.{byteAt, wordAt, part, put, putWord, odd}
 use Rattle.wire.specs.Outer.{addressesAt, familyOf, four, headerField}
 use Rattle.wire.specs.Inner.{Holds, silentOf, startOf}
 use Rattle.wire.specs.declared.Message.{Message}
+use Rattle.wire.proofs.Held.{held-silent}
 use Rattle.mend.specs.Fresh.{sent}
-use Rattle.edit.specs.Update.{updatedAt, headerAfter, messageAfter, headerPut, messagePut}
-use Rattle.edit.specs.Edits.{lifetimeIn, Addressed, addressLeft}
+use Rattle.kept.specs.Update.{updatedAt, headerAfter, messageAfter}
+use Rattle.edit.specs.Steps.{headerPut, messagePut}
+use Rattle.kept.specs.Edits.{Addressed, addressLeft}
+use Rattle.edit.specs.Steps.{lifetimeIn}
 
 -- ---- the fields
 module _ {p : List ℕ} {m : Message} (h : Holds p m) where
@@ -34,8 +37,8 @@ module _ {p : List ℕ} {m : Message} (h : Holds p m) where
   pub message-made : (pos a : ℕ) (new q : List ℕ) (w : ℕ) (quiet : Bool) → quiet ≡ (eqb (m .protocol) 17 && eqb (wordAt p (m .field)) 0)
       → w ≡ sent (eqb (m .protocol) 17) (updated (wordAt p (m .field)) (fold (weigh (odd pos) (part p a (length new)))) (fold (weigh (odd pos) new)))
       → messagePut quiet (m .field) q w ≡ messageAfter p pos a new q
-  unfolding messageAfter updatedAt silentOf
-  message-made = rw (h .is) (λ pos a new q w quiet eq ew. rw (eq, ew))
+  unfolding messageAfter updatedAt
+  message-made pos a new q w quiet eq ew = rw (eq ∙ held-silent h, ew, h .is)
 
 -- ---- the lifetime
 module _ (p : List ℕ) where

@@ -12,8 +12,9 @@ use Rattle.verdicts.proofs.Tests.{by-cases, and-true}
 use Rattle.wire.specs.Bytes.{put}
 use Rattle.wire.specs.Outer.{protocolOf}
 use Rattle.wire.specs.Inner.{bodyOf, endOf, startOf}
-use Rattle.edit.specs.Update.{messageAfter}
-use Rattle.edit.specs.Edits.{blank, stretchIn}
+use Rattle.kept.specs.Update.{messageAfter}
+use Rattle.kept.specs.Edits.{blank}
+use Rattle.edit.specs.Steps.{stretchIn}
 
 module _ (p : List ℕ) (place : ℕ) (new : List ℕ) where
   pub too-long : endOf p - bodyOf p < place + length new → _≡_ {A = Verdict × List ℕ} (Place, p) (stretchIn p place new)

@@ -1,4 +1,2 @@
--- Edits in place: the rules paper's section "Edits", and sequences of them.
-pub mod Update
-pub mod Edits
-pub mod Runs
+-- What the private functions of the edits answer, in terms of the edits.
+pub mod Steps

@@ -19,11 +19,11 @@ ghost use mathlib.Core.Bool.{true, false};
 ghost use Prim.Native.Nat.{_+_, _-_, _≤_};
 ghost use lib.ListN.{length};
 ghost use Rattle.wire.specs.Bytes.{put};
-ghost use Rattle.wire.specs.Outer.{four, startOf, endOf};
-ghost use Rattle.wire.specs.Inner.{bodyOf, Holds};
-ghost use Rattle.wire.specs.Cover.{addressesAt, addressSize};
-ghost use Rattle.edit.specs.Update.{messageAfter};
-ghost use Rattle.edit.specs.Edits.{editableOf, lifetimeIn, lifetimeOf, Addressed, addressLeft, addressIn, addressOf, stretchOf};
+ghost use Rattle.wire.specs.Outer.{four, addressesAt, addressSize};
+ghost use Rattle.wire.specs.Inner.{startOf, endOf, bodyOf, Holds};
+ghost use Rattle.kept.specs.Update.{messageAfter};
+ghost use Rattle.kept.specs.Edits.{lifetimeOf, Addressed, addressLeft, addressOf, stretchOf};
+ghost use Rattle.edit.specs.Steps.{editableOf, lifetimeIn, addressIn};
 
 // Lowers the lifetime by one. Spent if it is 0 or 1.
 pub fn lower_lifetime(packet: &mut [u8]) -> Verdict

@@ -3,15 +3,12 @@ use mathlib.Core.Path.{_≡_, _∙_, sym, ap}
 use Prim.Native.Nat.{ℕ}
 use native.Mathlib.Omega.{arith}
 use mathlib.Core.List.{List}
-use mathlib.Core.Bool.{_&&_}
-use lib.Dec.{eqb}
 use denote.Ref.{now}
-use Rattle.wire.specs.Bytes.{wordAt}
 use Rattle.wire.specs.Outer.{familyOf}
 use Rattle.wire.specs.Inner.{Holds, silentOf, wholeOf}
 use Rattle.wire.specs.declared.Message.{Message}
 use Rattle.wire.specs.declared.Part.the-variants.{Whole}
-use Rattle.wire.proofs.Held.{held-whole, held-facts, is-four, is-six}
+use Rattle.wire.proofs.Held.{held-whole, held-facts, held-silent, is-four, is-six}
 use Rattle.edit.proofs.Common.{refused-whole, missing6, summed6, whole-four}
 use borrow.Author.Needs.{needs}
 use Rattle.edit.proofs.editable.Statement.{statement}
@@ -33,10 +30,7 @@ family : (c : tie.After-part2) → M c .family ≡ familyOf (P c)
 family c = ap (λ (m : Message). m .family) (holds c .is)
 
 quiet : (c : tie.After-silent) → c .silent .result ≡ silentOf (P (c .before .before .before .before))
-unfolding silentOf
-quiet c =
-    let d = c .before .before .before .before in
-    c .silent .ensures ∙ ap (λ (m : Message). eqb (m .protocol) 17 && eqb (wordAt (P d) (m .field)) 0) (holds d .is)
+quiet c = c .silent .ensures ∙ held-silent (holds (c .before .before .before .before))
 
 silent-requires : tie.Need-silent-requires
 silent-requires c κs =

@@ -9,7 +9,8 @@ use Rattle.wire.specs.Inner.{Holds}
 use Rattle.wire.specs.declared.Message.{Message}
 use Rattle.wire.specs.declared.Part.the-variants.{Whole}
 use Rattle.wire.proofs.Held.{held-facts, is-four, is-six}
-use Rattle.edit.specs.Edits.{editableOf, lifetimeOf}
+use Rattle.kept.specs.Edits.{lifetimeOf}
+use Rattle.edit.specs.Steps.{editableOf}
 use Rattle.edit.proofs.Common.{by-editable, held-editable}
 use borrow.Author.Needs.{needs}
 use Rattle.edit.proofs.lower_lifetime.Statement.{statement}
@@ -41,7 +42,7 @@ lower6-requires c κs =
     let d = c .before .before .before .before in
     let s = is-six (P d) (sym (family d) ∙ c .before .enum-told2 .given .1) in
     let f = held-facts (holds d) in
-    let x = f .six s in
+    let x = f .outer .six s in
     (omega arith, s)
 
 returns : tie.Need-returns

@@ -8,7 +8,6 @@ use Rattle.wire.specs.Outer.{addressesAt, addressesLength}
 use Rattle.wire.specs.Inner.{fieldAt, startOf}
 use Rattle.wire.proofs.Facts.{Facts}
 use Rattle.wire.proofs.Held.{held-facts}
-use Rattle.cover.proofs.Blocks.{addresses-end}
 use Rattle.edit.proofs.Made.{address-made, address-plain}
 use borrow.Author.Needs.{needs}
 use Rattle.edit.proofs.put_address.Statement.{statement}
@@ -21,13 +20,12 @@ record Known (c : tie.Start) : Type 0 where
   facts : Facts (P c)
   start : c .args .m .start ≡ startOf (P c)
   field : c .args .m .field ≡ fieldAt (P c)
-  ends : addressesAt (P c) + addressesLength (P c) ≤ startOf (P c)
 
 known : (c : tie.Start) → Known c
 known c =
     let e = c .pre .0 .is in
     let f = held-facts (c .pre .0) in
-    record { facts = f; start = rw e; field = rw e; ends = addresses-end f }
+    record { facts = f; start = rw e; field = rw e }
 
 -- the entry, seen from where both fields are worked out
 abbrev entry : tie.After-renewed2 → tie.Start

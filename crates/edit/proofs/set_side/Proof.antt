@@ -6,8 +6,8 @@ use mathlib.Core.List.{List}
 use denote.Ref.{now}
 use Rattle.verdicts.specs.declared.Verdict.the-variants.{Good}
 use Rattle.wire.proofs.Held.{held-facts}
-use Rattle.cover.proofs.Blocks.{addresses-end}
-use Rattle.edit.proofs.Sides.{other-side, other-size, source-set, destination-set, source-at, destination-at}
+use Rattle.kept.proofs.Sides.{source-at, destination-at}
+use Rattle.edit.proofs.Sides.{other-side, other-size, source-set, destination-set}
 use borrow.Author.Needs.{needs}
 use Rattle.edit.proofs.set_side.Statement.{statement}
 use Rattle.edit.proofs.set_side.Tie as tie
@@ -38,7 +38,6 @@ add-put-address c =
     let a = c .before .before .before .before .before .before in
     let f = destination-at (P a) _ _ _ (a .pre .1 .0) (a .pre .1 .1) (c .before .before .if2 .left) in
     let g = held-facts (a .pre .0) in
-    let k = addresses-end g in
     omega arith
 
 put-address-requires-2 : tie.Need-put-address-requires-2

@@ -14,8 +14,9 @@ use Rattle.wire.specs.declared.Message.{Message}
 use Rattle.wire.specs.declared.Part.the-variants.{Whole}
 use Rattle.wire.proofs.Facts.{Facts}
 use Rattle.wire.proofs.Held.{held-facts}
-use Rattle.edit.specs.Update.{messageAfter}
-use Rattle.edit.specs.Edits.{blank, editableOf, stretchOf, stretchIn}
+use Rattle.kept.specs.Update.{messageAfter}
+use Rattle.kept.specs.Edits.{blank, stretchOf}
+use Rattle.edit.specs.Steps.{editableOf, stretchIn}
 use Rattle.edit.proofs.Common.{by-editable, held-editable}
 use Rattle.edit.proofs.Stretches.{too-long, empty-kept, blank-refused, stretch-set}
 use borrow.Author.Needs.{needs}

@@ -13,7 +13,7 @@ use Rattle.wire.specs.Outer.{protocolOf}
 use Rattle.wire.specs.Inner.{endOf, fieldAt, startOf}
 use Rattle.wire.proofs.Facts.{Facts}
 use Rattle.wire.proofs.Held.{held-facts}
-use Rattle.edit.specs.Edits.{allZero, blank}
+use Rattle.kept.specs.Edits.{allZero, blank}
 use Rattle.edit.proofs.Blanks.{blanks-made, new-decides}
 use borrow.Author.Needs.{needs}
 use Rattle.edit.proofs.blank.blanks.Statement.{statement}

@@ -7,7 +7,7 @@ use borrow.Author.Tests.{eq-eqb, ne-eqb}
 use lib.ListN.{length, drop, drop-of-length-le}
 use lib.Seq.{drop-cons}
 use denote.Ref.{now}
-use Rattle.edit.specs.Edits.{allZero}
+use Rattle.kept.specs.Edits.{allZero}
 use Rattle.edit.proofs.blank.zeros.Statement.{statement}
 use Rattle.edit.proofs.blank.zeros.Tie as tie
 

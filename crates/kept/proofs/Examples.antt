@@ -7,16 +7,17 @@ use Rattle.sums.specs.Total.{weigh}
 use Rattle.sums.specs.Fold.{fold, passes}
 use Rattle.sums.specs.Update.{updated}
 use Rattle.wire.specs.Bytes.{put, odd}
-use Rattle.wire.specs.Outer.{familyOf, fragmentOf, outerRules, protocolOf}
-use Rattle.wire.specs.Inner.{endOf, fieldAt, messageRules, pseudo, silentOf, startOf, wholeRules}
+use Rattle.wire.specs.Outer.{familyOf, headerEnd, declaredEnd, fragmentOf, outerRules, protocolOf}
+use Rattle.wire.specs.Messages.{shapeRules}
+use Rattle.wire.specs.Inner.{carriedOf, bodyOf, endOf, fieldAt, messageRules, pseudo, silentOf, startOf, wholeRules}
 use Rattle.wire.specs.Table.{rowOf}
 use Rattle.cover.specs.Sums.{headerTotal, messageTotal, headerSums, messageSums}
 use Rattle.judge.specs.Judge.{sumRules, judgeRules, judgeOf}
 use Rattle.mend.specs.Fresh.{sent, freshHeader, freshMessage}
 use Rattle.mend.specs.Mend.{mendedHeader, mendedMessage, mendOf}
-use Rattle.edit.specs.Update.{updatedAt, headerAfter, messageAfter}
-use Rattle.edit.specs.Edits.{editRules, lifetimeOf, addressOf, blank, stretchOf}
-use Rattle.edit.specs.Runs.{lifetime, address, stretch, apply, run}
+use Rattle.kept.specs.Update.{updatedAt, headerAfter, messageAfter}
+use Rattle.kept.specs.Edits.{editRules, lifetimeOf, addressOf, blank, stretchOf}
+use Rattle.kept.specs.Runs.{lifetime, address, stretch, apply, run}
 
 -- UDP over IPv4: its lifetime, header field, last bytes of the addresses, message field and data
 abbrev datagram : ℕ → ℕ → ℕ → ℕ → ℕ → ℕ → ℕ → ℕ → ℕ → List ℕ
@@ -27,25 +28,25 @@ datagram life high low from to fh fl a b =
 -- its data edited byte by byte, the second at an odd place: the field computed 0000 is sent FFFF
 edited : run (stretch 0 (0x56 ∷ []) ∷ stretch 1 (0xB0 ∷ []) ∷ []) (datagram 0x40 0xB8 0xB6 0x01 0xC7 0x0E 0x47 0x48 0x69)
     ≡ datagram 0x40 0xB8 0xB6 0x01 0xC7 0xFF 0xFF 0x56 0xB0
-unfolding weigh fold updated put odd familyOf startOf endOf protocolOf fragmentOf outerRules rowOf fieldAt pseudo silentOf messageRules wholeRules sent updatedAt messageAfter editRules stretchOf
+unfolding weigh fold updated put odd familyOf startOf headerEnd carriedOf endOf declaredEnd protocolOf fragmentOf outerRules rowOf fieldAt bodyOf pseudo silentOf messageRules shapeRules wholeRules sent updatedAt messageAfter editRules stretchOf
 edited = refl
 
 -- its lifetime lowered and its addresses exchanged
 forwarded : run (lifetime ∷ address 0 (0xC0 ∷ 0xA8 ∷ 0x00 ∷ 0xC7 ∷ []) ∷ address 1 (0xC0 ∷ 0xA8 ∷ 0x00 ∷ 0x01 ∷ []) ∷ []) (datagram 0x40 0xB8 0xB6 0x01 0xC7 0x0E 0x47 0x48 0x69)
     ≡ datagram 0x3F 0xB9 0xB6 0xC7 0x01 0x0E 0x47 0x48 0x69
-unfolding weigh fold updated put odd familyOf startOf endOf protocolOf fragmentOf outerRules rowOf fieldAt pseudo silentOf messageRules wholeRules sent updatedAt headerAfter messageAfter editRules lifetimeOf addressOf
+unfolding weigh fold updated put odd familyOf startOf headerEnd carriedOf endOf declaredEnd protocolOf fragmentOf outerRules rowOf fieldAt bodyOf pseudo silentOf messageRules shapeRules wholeRules sent updatedAt headerAfter messageAfter editRules lifetimeOf addressOf
 forwarded = refl
 
 -- both fields wrong, mended
 mended : mendOf (datagram 0x40 0x12 0x34 0x01 0xC7 0x00 0x01 0x48 0x69) ≡ (Good, datagram 0x40 0xB8 0xB6 0x01 0xC7 0x0E 0x47 0x48 0x69)
-unfolding weigh fold put familyOf startOf endOf protocolOf fragmentOf outerRules rowOf fieldAt pseudo silentOf messageRules wholeRules headerTotal messageTotal sent freshHeader freshMessage mendedHeader mendedMessage mendOf
+unfolding weigh fold put familyOf startOf headerEnd carriedOf endOf declaredEnd protocolOf fragmentOf outerRules rowOf fieldAt bodyOf pseudo silentOf messageRules shapeRules wholeRules headerTotal messageTotal sent freshHeader freshMessage mendedHeader mendedMessage mendOf
 mended = refl
 
 -- the paper's echo, its capture's second record
 echo-good : judgeOf
     (0x45 ∷ 0x00 ∷ 0x00 ∷ 0x1C ∷ 0x00 ∷ 0x00 ∷ 0x00 ∷ 0x00 ∷ 0x40 ∷ 0x01 ∷ 0x66 ∷ 0xDF ∷ 0x0A ∷ 0x00 ∷ 0x00 ∷ 0x01 ∷ 0x0A ∷ 0x00 ∷ 0x00 ∷ 0x02
     ∷ 0x08 ∷ 0x00 ∷ 0xF7 ∷ 0xFD ∷ 0x00 ∷ 0x01 ∷ 0x00 ∷ 0x01 ∷ []) ≡ Good
-unfolding weigh fold passes familyOf startOf endOf protocolOf fragmentOf outerRules rowOf fieldAt pseudo silentOf messageRules headerTotal messageTotal headerSums messageSums sumRules judgeRules judgeOf
+unfolding weigh fold passes familyOf startOf headerEnd carriedOf endOf declaredEnd protocolOf fragmentOf outerRules rowOf fieldAt bodyOf pseudo silentOf messageRules shapeRules headerTotal messageTotal headerSums messageSums sumRules judgeRules judgeOf
 echo-good = refl
 
 -- ---- why both halves of the blank rule are needed
@@ -59,11 +60,11 @@ icmp fh fl byte =
 blank-before : (apply (stretch 0 (8 ∷ [])) (icmp 0 0 0) .0 ≡ Blank)
     × (messageAfter (icmp 0 0 0) 8 28 (8 ∷ []) (icmp 0 0 8) ≡ icmp 0xF7 0xFF 8)
     × (judgeOf (icmp 0 0 0) ≡ MessageSum) × (judgeOf (icmp 0xF7 0xFF 8) ≡ Good)
-unfolding weigh fold passes updated put odd familyOf startOf endOf protocolOf fragmentOf outerRules rowOf fieldAt pseudo silentOf messageRules wholeRules headerTotal messageTotal headerSums messageSums sumRules judgeRules judgeOf sent updatedAt messageAfter editRules blank stretchOf
+unfolding weigh fold passes updated put odd familyOf startOf headerEnd carriedOf endOf declaredEnd protocolOf fragmentOf outerRules rowOf fieldAt bodyOf pseudo silentOf messageRules shapeRules wholeRules headerTotal messageTotal headerSums messageSums sumRules judgeRules judgeOf sent updatedAt messageAfter editRules blank stretchOf
 blank-before = (refl, refl, refl, refl)
 
 -- blank after: refused, since it would make a right sum wrong
 blank-after : (apply (stretch 0 (0 ∷ [])) (icmp 0xF7 0xFF 8) .0 ≡ Blank)
     × (messageAfter (icmp 0xF7 0xFF 8) 8 28 (0 ∷ []) (icmp 0xF7 0xFF 0) ≡ icmp 0 0 0)
-unfolding weigh fold updated put odd familyOf startOf endOf protocolOf fragmentOf outerRules rowOf fieldAt pseudo silentOf messageRules wholeRules sent updatedAt messageAfter editRules blank stretchOf
+unfolding weigh fold updated put odd familyOf startOf headerEnd carriedOf endOf declaredEnd protocolOf fragmentOf outerRules rowOf fieldAt bodyOf pseudo silentOf messageRules shapeRules wholeRules sent updatedAt messageAfter editRules blank stretchOf
 blank-after = (refl, refl)

@@ -13,7 +13,7 @@ use Rattle.verdicts.proofs.Rules.{clear-both}
 use Rattle.sums.specs.Total.{weigh}
 use Rattle.sums.specs.Update.{updated}
 use Rattle.wire.specs.Bytes.{byteAt, wordAt, part, put, putWord, odd, Bytes}
-use Rattle.wire.specs.Outer.{addressesAt, four, headerField, lifetimeAt, versionOf}
+use Rattle.wire.specs.Outer.{addressesAt, four, headerEnd, headerField, lifetimeAt, versionOf}
 use Rattle.wire.specs.Inner.{fieldAt, silentOf, startOf, udp, wholeRules}
 use Rattle.wire.proofs.Writes.{Wrote, bytes-word, bytes-wrote, put-wrote, word-above, word-below}
 use Rattle.wire.proofs.Same.{Same, four-same, same-self, same-step, soft-header}
@@ -27,9 +27,9 @@ use Rattle.mend.proofs.Numbers.{sent-small}
 use Rattle.cover.proofs.Blocks.{header-in, header-out, message-out}
 use Rattle.mend.proofs.Fresh.{HeaderKept, MessageKept, writeH, writeF, sameH, sameF, header-carry, silent-carry, message-carry, message-self}
 use Rattle.mend.proofs.Accepted.{Accepted, accepted-whole}
-use Rattle.edit.specs.Update.{updatedAt, headerAfter, messageAfter}
-use Rattle.edit.specs.Edits.{editRules, lifeAt, lowered}
-use Rattle.edit.proofs.Done.{header-done, message-done}
+use Rattle.kept.specs.Update.{updatedAt, headerAfter, messageAfter}
+use Rattle.kept.specs.Edits.{editRules, lowered}
+use Rattle.kept.proofs.Done.{header-done, message-done}
 
 -- a packet that no rule of the edits' common order refuses: a silent one is IPv4's
 pub accepted : (p : List ℕ) → clear (editRules p) → Accepted p
@@ -58,7 +58,7 @@ updated-bytes p f pos at new = omega arith
 
 -- ---- the header's field
 module _ {p q : List ℕ} (k : Facts p) (by : Bytes p) (a : Same p q) (bq : Bytes q) (at : ℕ) (new : List ℕ) (w : Wrote p q at new)
-    (low : at + length new ≤ startOf p) (off : four p ≡ true → (at + length new ≤ headerField) ⊎ (12 ≤ at)) where
+    (low : at + length new ≤ headerEnd p) (off : four p ≡ true → (at + length new ≤ headerField) ⊎ (12 ≤ at)) where
   pub record HeaderStep (r : List ℕ) : Type 0 where
     pub same : Same p r
     pub bytes : Bytes r
@@ -75,7 +75,7 @@ module _ {p q : List ℕ} (k : Facts p) (by : Bytes p) (a : Same p q) (bq : Byte
       record {
         same = s;
         bytes = bytes-wrote x bq (bytes-word v (updated-bytes p headerField at at new));
-        kept = header-done k by a at new (header-in (k .outer) (same-self p) a w low)
+        kept = header-done (k .outer) by a at new (header-in (k .outer) (same-self p) a w low)
             (⊎-elim (λ l. word-above w headerField l) (λ l. word-below w headerField l) (off f));
         total = message-out k a s x (omega arith) (λ t. simp f (omega arith));
         word = word-above x (fieldAt p) (omega arith);

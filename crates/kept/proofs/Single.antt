@@ -1,30 +1,31 @@
--- One edit: what it answers, that a refused one changes nothing, where its new bytes stand, and what it keeps.
+-- One edit: that a refused one changes nothing, where its new bytes stand, and what it keeps.
 use mathlib.Core.Path.{_≡_, refl, sym, ap, _∙_}
-use mathlib.Core.Logic.{_↔_, _⊎_, ⊎-elim}
+use mathlib.Core.Logic.{_⊎_, ⊎-elim}
 use Prim.Native.Nat.{ℕ, _+_, _<_, _≤_}
 use native.Mathlib.Omega.{arith}
 use mathlib.Core.List.{List}
 use lib.ListN.{length}
-use Rattle.verdicts.specs.Rules.{first, clear, Decides}
+use Rattle.verdicts.specs.Rules.{first, clear}
 use Rattle.verdicts.specs.declared.Verdict.{Verdict}
 use Rattle.verdicts.specs.declared.Verdict.the-variants.{Good}
 use Rattle.verdicts.proofs.Rules.{clear-both}
 use Rattle.wire.specs.Bytes.{byteAt, Bytes}
 use Rattle.wire.specs.Outer.{outerRules}
+use Rattle.wire.specs.Messages.{shapeRules}
 use Rattle.wire.specs.Inner.{bodyOf, messageRules, wholeRules}
 use Rattle.wire.proofs.Writes.{put-wrote}
 use Rattle.wire.proofs.Same.{field-same, four-same, whole-same}
 use Rattle.judge.specs.Judge.{judgeOf}
 use Rattle.mend.specs.Fresh.{HeaderFresh, MessageFresh}
 use Rattle.mend.specs.Mend.{mendOf, Outside}
-use Rattle.verdicts.proofs.Calls.{Refusals, call-exactly, call-refused, call-clear, call-done, call-either}
+use Rattle.verdicts.proofs.Calls.{Refusals, call-refused, call-clear, call-done, call-either}
 use Rattle.mend.proofs.Accepted.{judge-kept}
 use Rattle.mend.proofs.Mending.{whole-good, mend-fresh}
-use Rattle.edit.specs.Edits.{editRules, lifetimeRules, lifetimeLeft, lifetimeOf, sideAt, addressRules, addressLeft, addressOf, stretchRules, stretchLeft, stretchOf}
-use Rattle.edit.specs.Runs.{Fit, Edit, lifetime, address, stretch, apply, rulesOf, placeOf, newOf}
-use Rattle.edit.proofs.Sides.{side-addressed}
-use Rattle.edit.proofs.Steps.{accepted, Kept, lifetime-step}
-use Rattle.edit.proofs.Changes.{address-step, stretch-step}
+use Rattle.kept.specs.Edits.{editRules, lifetimeRules, lifetimeLeft, lifetimeOf, sideAt, addressRules, addressLeft, addressOf, stretchRules, stretchLeft, stretchOf}
+use Rattle.kept.specs.Runs.{Fit, Edit, lifetime, address, stretch, apply, rulesOf, placeOf, newOf}
+use Rattle.kept.proofs.Sides.{side-addressed}
+use Rattle.kept.proofs.Steps.{accepted, Kept, lifetime-step}
+use Rattle.kept.proofs.Changes.{address-step, stretch-step}
 
 -- what an edit makes of a packet where no rule refuses
 abbrev pub made : Edit → List ℕ → List ℕ
@@ -40,10 +41,6 @@ apply-as (stretch place new) p = refl
 
 -- ---- what it answers
 module _ (e : Edit) (p : List ℕ) where
-  -- each refusal comes exactly in its case, in the paper's order, and good where there is none
-  pub edit-exactly : (v : Verdict) → (apply e p .0 ≡ v) ↔ Decides (rulesOf e p) v
-  edit-exactly v = rw (apply-as e p) (call-exactly (rulesOf e p) p (made e p) v)
-
   -- a refused edit leaves the packet as it was
   pub refused-unchanged : (apply e p .0 ≡ Good → ⊥) → apply e p .1 ≡ p
   refused-unchanged = rw (apply-as e p) (call-refused (rulesOf e p) p (made e p))
@@ -56,7 +53,7 @@ module _ (e : Edit) (p : List ℕ) where
   edit-either P a b = rw (apply-as e p) (call-either (rulesOf e p) p (made e p) P a b)
 
 pub accepted-clear : (e : Edit) (p : List ℕ) → apply e p .0 ≡ Good → clear (rulesOf e p)
-unfolding editRules wholeRules outerRules messageRules
+unfolding editRules wholeRules outerRules messageRules shapeRules
 accepted-clear e p g = call-clear (rulesOf e p) p (made e p) (refusals e) (ap (λ (x : Verdict × List ℕ). x .0) (sym (apply-as e p)) ∙ g)
   where
     refusals : (e : Edit) → Refusals (rulesOf e p)
@@ -115,7 +112,7 @@ still e p f b =
     let s = k .same in
     record {
       bytes = k .bytes;
-      judged = judge-kept (k .accepts) s (k .header .sums) (k .message .silent) (k .message .sums);
+      judged = judge-kept s (k .header .sums) (λ w. record { silent = k .message .silent; sums = k .message .sums });
       header = k .header .fresh;
       message = k .message .fresh;
       mended = λ h.

@@ -10,40 +10,41 @@ use Rattle.wire.specs.Bytes.{wordAt, part, putWord, odd, Bytes}
 use Rattle.wire.specs.Outer.{headerField}
 use Rattle.wire.specs.Inner.{fieldAt, silentOf, udp}
 use Rattle.wire.proofs.Writes.{word-small, word-wrote}
-use Rattle.wire.proofs.Same.{Same, field-same, four-same, same-self, udp-same}
-use Rattle.wire.proofs.Facts.{Facts}
+use Rattle.wire.proofs.Same.{Same, silent-at, field-same, four-same, same-self}
+use Rattle.wire.proofs.Facts.{OuterFacts, Facts}
 use Rattle.cover.specs.Sums.{headerTotal, messageTotal, headerSums, messageSums}
 use Rattle.mend.specs.Fresh.{sent, freshHeader}
 use Rattle.mend.proofs.Numbers.{pass-alike, sent-some, block-alike, block-fresh}
 use Rattle.cover.proofs.Blocks.{header-word, message-field, header-some}
 use Rattle.mend.proofs.Fresh.{HeaderKept, MessageKept, writeH, writeF, sameH, sameF, asideH, asideF, freshF}
-use Rattle.edit.specs.Update.{updatedAt}
+use Rattle.kept.specs.Update.{updatedAt}
 
-module _ {p q : List ℕ} (k : Facts p) (by : Bytes p) (a : Same p q) (at : ℕ) (new : List ℕ) where
+module _ {p q : List ℕ} (k : OuterFacts p) (by : Bytes p) (a : Same p q) (at : ℕ) (new : List ℕ) where
   pub header-done : headerTotal q + weigh (odd at) (part p at (length new)) ≡ headerTotal p + weigh (odd at) new
       → wordAt q headerField ≡ wordAt p headerField → HeaderKept p (putWord q headerField (updatedAt p headerField at at new))
   unfolding updatedAt headerSums freshHeader sent
   header-done t e =
       let v = updatedAt p headerField at at new in
       let r = putWord q headerField v in
-      let sr = sameH (k .outer) a v in
-      let f = header-word v (k .outer) a sr (writeH (k .outer) a v) in
+      let sr = sameH k a v in
+      let f = header-word v k a sr (writeH k a v) in
       let f' : headerTotal r + wordAt p headerField ≡ headerTotal q + v = rw e at f in
-      let w : wordAt r headerField ≡ v = word-wrote v (writeH (k .outer) a v) in
+      let w : wordAt r headerField ≡ v = word-wrote v (writeH k a v) in
       let z = same-self p in
       let x = block-alike (headerTotal p) (headerTotal q) (headerTotal r) _ _ (wordAt p headerField) v false (word-small p headerField by) t f' refl in
       record {
-        sums = rw (four-same (sr .header), pass-alike (headerTotal r) (headerTotal p) (header-some (k .outer) sr) (header-some (k .outer) z) x);
+        sums = rw (four-same (sr .header), pass-alike (headerTotal r) (headerTotal p) (header-some k sr) (header-some k z) x);
         fresh = λ g y.
             w ∙ block-fresh (headerTotal p) (headerTotal q) (headerTotal r) (headerTotal (putWord p headerField 0)) (headerTotal (putWord r headerField 0)) _ _ (wordAt p headerField) v false
-            t f' refl (asideH (k .outer) z) (ap (λ n. headerTotal (putWord r headerField 0) + n) (sym w) ∙ asideH (k .outer) sr) (header-some (k .outer) (sameH (k .outer) sr 0)) (g (sym (four-same (sr .header)) ∙ y));
+            t f' refl (asideH k z) (ap (λ n. headerTotal (putWord r headerField 0) + n) (sym w) ∙ asideH k sr) (header-some k (sameH k sr 0)) (g (sym (four-same (sr .header)) ∙ y));
       }
 
+module _ {p q : List ℕ} (k : Facts p) (by : Bytes p) (a : Same p q) (at : ℕ) (new : List ℕ) where
   pub message-done : (pos : ℕ) → messageTotal q + weigh (odd pos) (part p at (length new)) ≡ messageTotal p + weigh (odd pos) new
       → wordAt q (fieldAt p) ≡ wordAt p (fieldAt p) → silentOf p ≡ false
       → 0 < messageTotal (putWord p (fieldAt p) 0) → 0 < messageTotal (putWord q (fieldAt p) 0)
       → MessageKept p (putWord q (fieldAt p) (sent (udp p) (updatedAt p (fieldAt p) pos at new)))
-  unfolding updatedAt messageSums silentOf
+  unfolding updatedAt messageSums
   message-done pos t e s some0 some1 =
       let v = sent (udp p) (updatedAt p (fieldAt p) pos at new) in
       let r = putWord q (fieldAt p) v in
@@ -59,7 +60,7 @@ module _ {p q : List ℕ} (k : Facts p) (by : Bytes p) (a : Same p q) (at : ℕ)
       there r0 v (messageTotal r) (wordAt p (fieldAt p)) (messageTotal q) q0 c f' (ap (λ n. q0 + n) (sym e) ∙ asideF k a) some1 in
       let x = block-alike (messageTotal p) (messageTotal q) (messageTotal r) _ _ (wordAt p (fieldAt p)) v (udp p) (word-small p (fieldAt p) by) t f' refl in
       record {
-        silent = rw (udp-same (sr .header), field-same (sr .header), w) (sent-some (udp p) (updatedAt p (fieldAt p) pos at new)) ∙ sym s;
+        silent = silent-at sr k ∙ rw w (sent-some (udp p) (updatedAt p (fieldAt p) pos at new)) ∙ sym s;
         sums = λ g. pass-alike (messageTotal r) (messageTotal p) (more r0 v (messageTotal r) c some2) (more _ _ (messageTotal p) z some0) x;
         fresh = λ g u.
             ap (wordAt r) (field-same (sr .header)) ∙ w

@@ -14,8 +14,8 @@ use Rattle.wire.proofs.Writes.{put-wrote}
 use Rattle.judge.specs.Judge.{judgeOf}
 use Rattle.mend.specs.Fresh.{HeaderFresh, MessageFresh}
 use Rattle.mend.specs.Mend.{mendOf, Outside}
-use Rattle.edit.specs.Runs.{Fit, Fits, Edit, apply, run, rulesOf, placeOf, newOf, written, bare, Untouched}
-use Rattle.edit.proofs.Single.{made, apply-as, accepted-clear, kept, new-stands, byte-stays, still}
+use Rattle.kept.specs.Runs.{Fit, Fits, Edit, apply, run, rulesOf, placeOf, newOf, written, bare, Untouched}
+use Rattle.kept.proofs.Single.{made, apply-as, accepted-clear, kept, new-stands, byte-stays, still}
 
 -- ---- the verdict
 -- the verdict after is the verdict before

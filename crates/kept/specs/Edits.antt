@@ -10,38 +10,25 @@ use Rattle.verdicts.specs.Rules.{Rule, _⇒_, first}
 use Rattle.verdicts.specs.declared.Verdict.{Verdict}
 use Rattle.verdicts.specs.declared.Verdict.the-variants.{Good, Place, Spent, Blank}
 use Rattle.wire.specs.Bytes.{byteAt, part, put, putWord}
-use Rattle.wire.specs.Outer.{four, startOf, endOf, protocolOf}
-use Rattle.wire.specs.Inner.{lengthOf, fieldAt, bodyOf, pseudo, messageOf, wholeRules}
-use Rattle.wire.specs.Cover.{addressesAt, addressSize, addressesLength}
-use Rattle.wire.specs.declared.Part.{Part}
-use Rattle.wire.specs.declared.Part.the-variants.{Refused, Whole}
+use Rattle.wire.specs.Outer.{protocolOf, lifetimeAt, addressesAt, addressSize, addressesLength}
+use Rattle.wire.specs.Inner.{startOf, endOf, lengthOf, fieldAt, bodyOf, pseudo, wholeRules}
 use Rattle.judge.specs.Judge.{missingRule}
-use Rattle.edit.specs.Update.{headerAfter, messageAfter}
+use Rattle.kept.specs.Update.{headerAfter, messageAfter}
 
 -- 2, 3, 4, 6, 7, 8 in the judge's order, sums not being looked at
 unfoldable pub editRules : List ℕ → List Rule
 editRules p = wholeRules p ++ missingRule p
 
-unfoldable pub editableOf : List ℕ → Part
-editableOf p = first (editRules p) Refused (Whole (messageOf p))
-
 -- ---- lifetime
-abbrev pub lifeAt : List ℕ → ℕ
-lifeAt p = if four p then 8 else 7
-
 abbrev pub lowered : List ℕ → List ℕ
-lowered p = (byteAt p (lifeAt p) - 1) ∷ []
+lowered p = (byteAt p (lifetimeAt p) - 1) ∷ []
 
 -- spent if it is 0 or 1
 abbrev pub lifetimeRules : List ℕ → List Rule
-lifetimeRules p = (ltb (byteAt p (lifeAt p)) 2 ⇒ Spent) ∷ []
+lifetimeRules p = (ltb (byteAt p (lifetimeAt p)) 2 ⇒ Spent) ∷ []
 
 abbrev pub lifetimeLeft : List ℕ → List ℕ
-lifetimeLeft p = headerAfter p (lifeAt p) (lowered p) (put p (lifeAt p) (lowered p))
-
--- what is answered where no earlier rule refuses
-abbrev pub lifetimeIn : List ℕ → Verdict × List ℕ
-lifetimeIn p = first (lifetimeRules p) (λ v. (v, p)) (Good, lifetimeLeft p)
+lifetimeLeft p = headerAfter p (lifetimeAt p) (lowered p) (put p (lifetimeAt p) (lowered p))
 
 unfoldable pub lifetimeOf : List ℕ → Verdict × List ℕ
 lifetimeOf p = first (editRules p ++ lifetimeRules p) (λ v. (v, p)) (Good, lifetimeLeft p)
@@ -61,9 +48,6 @@ abbrev pub addressLeft : List ℕ → ℕ → List ℕ → List ℕ
 addressLeft p a new =
     let q = headerAfter p a new (put p a new) in
     if pseudo p then messageAfter p (a - addressesAt p) a new q else q
-
-abbrev pub addressIn : List ℕ → ℕ → List ℕ → Verdict × List ℕ
-addressIn p side new = first (addressRules p side new) (λ v. (v, p)) (Good, addressLeft p (sideAt p side) new)
 
 unfoldable pub addressOf : List ℕ → ℕ → List ℕ → Verdict × List ℕ
 addressOf p side new = first (editRules p ++ addressRules p side new) (λ v. (v, p)) (Good, addressLeft p (sideAt p side) new)
@@ -93,9 +77,6 @@ stretchRules p place new =
 -- an empty stretch writes nothing
 abbrev pub stretchLeft : List ℕ → ℕ → List ℕ → List ℕ
 stretchLeft p a new = if eqb (length new) 0 then p else messageAfter p (a - startOf p) a new (put p a new)
-
-abbrev pub stretchIn : List ℕ → ℕ → List ℕ → Verdict × List ℕ
-stretchIn p place new = first (stretchRules p place new) (λ v. (v, p)) (Good, stretchLeft p (bodyOf p + place) new)
 
 unfoldable pub stretchOf : List ℕ → ℕ → List ℕ → Verdict × List ℕ
 stretchOf p place new = first (editRules p ++ stretchRules p place new) (λ v. (v, p)) (Good, stretchLeft p (bodyOf p + place) new)

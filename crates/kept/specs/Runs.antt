@@ -8,8 +8,9 @@ use Rattle.verdicts.specs.Rules.{Rule, first}
 use Rattle.verdicts.specs.declared.Verdict.{Verdict}
 use Rattle.verdicts.specs.declared.Verdict.the-variants.{Good}
 use Rattle.wire.specs.Bytes.{Bytes, put}
+use Rattle.wire.specs.Outer.{lifetimeAt}
 use Rattle.wire.specs.Inner.{bodyOf}
-use Rattle.edit.specs.Edits.{editRules, lifeAt, lowered, lifetimeRules, lifetimeOf, sideAt, addressRules, addressOf, stretchRules, stretchOf}
+use Rattle.kept.specs.Edits.{editRules, lowered, lifetimeRules, lifetimeOf, sideAt, addressRules, addressOf, stretchRules, stretchOf}
 
 pub data Edit : Type 0 where
   lifetime : Edit
@@ -35,7 +36,7 @@ rulesOf (stretch place new) p = editRules p ++ stretchRules p place new
 
 -- where an edit writes, and what
 abbrev pub placeOf : Edit → List ℕ → ℕ
-placeOf lifetime p = lifeAt p
+placeOf lifetime p = lifetimeAt p
 placeOf (address side new) p = sideAt p side
 placeOf (stretch place new) p = bodyOf p + place
 

@@ -21,12 +21,12 @@ use Rattle.cover.specs.Sums.{messageTotal}
 use Rattle.mend.specs.Mend.{Outside}
 use Rattle.cover.proofs.Tally.{tally, weigh-tally}
 use Rattle.cover.proofs.Totals.{addressTally, restTally, message-tally}
-use Rattle.cover.proofs.Blocks.{header-out, message-out, message-address, message-in, message-some, addresses-end}
+use Rattle.cover.proofs.Blocks.{header-out, message-out, message-address, message-in, message-some}
 use Rattle.mend.proofs.Fresh.{sameF, header-carry, message-carry, header-self, message-self}
 use Rattle.mend.proofs.Accepted.{Accepted}
-use Rattle.edit.specs.Update.{messageAfter}
-use Rattle.edit.specs.Edits.{Addressed, addressLeft, allZero, blank, stretchRules, stretchLeft}
-use Rattle.edit.proofs.Steps.{Kept, header-step, message-step}
+use Rattle.kept.specs.Update.{messageAfter}
+use Rattle.kept.specs.Edits.{Addressed, addressLeft, allZero, blank, stretchRules, stretchLeft}
+use Rattle.kept.proofs.Steps.{Kept, header-step, message-step}
 
 -- ---- the address
 addresses-low : (p : List ℕ) → (8 ≤ addressesAt p) × (four p ≡ true → addressesAt p ≡ 12)
@@ -40,7 +40,6 @@ module _ (p : List ℕ) (by : Bytes p) (c : Accepted p) (at : ℕ) (new : List �
   address-step =
       let k = c .facts in
       let z = same-self p in
-      let ends = addresses-end k in
       let low = addresses-low p in
       let w = put-wrote p at new (omega arith) in
       let s = same-step z w (soft-header (k .outer) at (length new) (omega arith) (omega arith) (λ f. (omega arith, inr (let e = low .1 f in omega arith)))) in

@@ -1,0 +1,9 @@
+-- What an edit keeps, the theorems on one edit and on any sequence of them, and examples.
+pub mod Sides
+pub mod Done
+pub mod Steps
+pub mod Changes
+pub mod Single
+pub mod Exactly
+pub mod Sequences
+pub mod Examples

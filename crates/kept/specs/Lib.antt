@@ -1,0 +1,5 @@
+-- Edits in place: the rules paper's section "Edits", and sequences of them.
+pub mod Update
+pub mod Edits
+pub mod Runs
+pub mod Cases
