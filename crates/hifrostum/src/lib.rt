@@ -10,7 +10,7 @@ ghost use Rattle.sums.specs.Chain.{chainOf};
 ghost use Rattle.sums.specs.Update.{updated};
 ghost use Rattle.judge.specs.Judge.{judgeOf};
 ghost use Rattle.mend.specs.Mend.{mendOf};
-ghost use Rattle.edit.specs.Edits.{lifetimeOf, addressOf, stretchOf};
+ghost use Rattle.kept.specs.Edits.{lifetimeOf, addressOf, stretchOf};
 ghost use Rattle.capture.specs.Judged.{judgedOf};
 ghost use Rattle.hifrostum.specs.Answers.{numbered, counted, summed};
 ghost use Rattle.hifrostum.specs.Answers.{bit as Answers·bit};
