@@ -13,8 +13,7 @@ use Rattle.wire.specs.Inner.{carriedOf, bodyOf, endOf, fieldAt, messageRules, p
 use Rattle.wire.specs.Table.{rowOf}
 use Rattle.cover.specs.Sums.{headerTotal, messageTotal, headerSums, messageSums}
 use Rattle.judge.specs.Judge.{sumRules, judgeRules, judgeOf}
-use Rattle.mend.specs.Fresh.{sent, freshHeader, freshMessage}
-use Rattle.mend.specs.Mend.{mendedHeader, mendedMessage, mendOf}
+use Rattle.mend.specs.Fresh.{sent}
 use Rattle.kept.specs.Update.{updatedAt, headerAfter, messageAfter}
 use Rattle.kept.specs.Edits.{editRules, lifetimeOf, addressOf, blank, stretchOf}
 use Rattle.kept.specs.Runs.{lifetime, address, stretch, apply, run}
@@ -36,11 +35,6 @@ forwarded : run (lifetime ∷ address 0 (0xC0 ∷ 0xA8 ∷ 0x00 ∷ 0xC7 ∷ [])
     ≡ datagram 0x3F 0xB9 0xB6 0xC7 0x01 0x0E 0x47 0x48 0x69
 unfolding weigh fold updated put odd familyOf startOf headerEnd carriedOf endOf declaredEnd protocolOf fragmentOf outerRules rowOf fieldAt bodyOf pseudo silentOf messageRules shapeRules wholeRules sent updatedAt headerAfter messageAfter editRules lifetimeOf addressOf
 forwarded = refl
-
--- both fields wrong, mended
-mended : mendOf (datagram 0x40 0x12 0x34 0x01 0xC7 0x00 0x01 0x48 0x69) ≡ (Good, datagram 0x40 0xB8 0xB6 0x01 0xC7 0x0E 0x47 0x48 0x69)
-unfolding weigh fold put familyOf startOf headerEnd carriedOf endOf declaredEnd protocolOf fragmentOf outerRules rowOf fieldAt bodyOf pseudo silentOf messageRules shapeRules wholeRules headerTotal messageTotal sent freshHeader freshMessage mendedHeader mendedMessage mendOf
-mended = refl
 
 -- the paper's echo, its capture's second record
 echo-good : judgeOf

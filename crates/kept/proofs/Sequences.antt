@@ -24,11 +24,14 @@ verdict-kept [] p f b = refl
 verdict-kept (e ∷ es) p f b = let s = still e p (f .0) b in verdict-kept es (apply e p .1) (f .1) (s .bytes) ∙ s .judged
 
 -- ---- the fields
--- if every sum field in use stood as fresh computation would set it, it does so afterwards
-pub fresh-kept : (es : List Edit) (p : List ℕ) → Fits es → Bytes p → HeaderFresh p → MessageFresh p
-    → HeaderFresh (run es p) × MessageFresh (run es p)
-fresh-kept [] p f b h m = (h, m)
-fresh-kept (e ∷ es) p f b h m = let s = still e p (f .0) b in fresh-kept es (apply e p .1) (f .1) (s .bytes) (s .header h) (s .message m)
+-- a sum field that stood as fresh computation would set it does so afterwards: the header's, and the message's, each on its own
+pub fresh-kept : (es : List Edit) (p : List ℕ) → Fits es → Bytes p
+    → (HeaderFresh p → HeaderFresh (run es p)) × (MessageFresh p → MessageFresh (run es p))
+fresh-kept [] p f b = (λ h. h, λ m. m)
+fresh-kept (e ∷ es) p f b =
+    let s = still e p (f .0) b in
+    let r = fresh-kept es (apply e p .1) (f .1) (s .bytes) in
+    (λ h. r .0 (s .header h), λ m. r .1 (s .message m))
 
 -- and a packet that mending would leave as it is stays one
 pub mended-kept : (es : List Edit) (p : List ℕ) → Fits es → Bytes p → mendOf p .1 ≡ p → mendOf (run es p) .1 ≡ run es p

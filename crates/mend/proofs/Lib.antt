@@ -1,4 +1,4 @@
--- Laws of fresh fields; the theorems of mending, and what no sum sees.
+-- Laws of fresh fields; the theorems of mending, what no sum sees, and examples.
 pub mod Numbers
 pub mod Fresh
 pub mod Without
@@ -6,3 +6,4 @@ pub mod Accepted
 pub mod Mended
 pub mod Mending
 pub mod Unseen
+pub mod Examples
