@@ -8,7 +8,8 @@ x86=scripts/x86.sh out=target/interop python=/usr/bin/python3
 scripts/setup.sh
 missing=
 for pair in tshark:tshark dumpcap:tshark ip:iproute2 ethtool:ethtool ping:iputils-ping; do
-    command -v "${pair%:*}" >/dev/null || missing="$missing ${pair#*:}"
+    command -v "${pair%:*}" >/dev/null && continue
+    case "$missing " in *" ${pair#*:} "*) ;; *) missing="$missing ${pair#*:}" ;; esac
 done
 $python -c 'import scapy' 2>/dev/null || missing="$missing python3-scapy"
 if [ -n "$missing" ]; then
