@@ -6,7 +6,7 @@
 # machine's C compiler, and by clang too where there is one.
 set -eu
 cd "$(dirname "$0")/.."
-x86=scripts/x86.sh out=target/c flags='-O2 -std=c11 -Wall -Wextra -Iinclude'
+x86=scripts/x86.sh out=target/bench flags='-O2 -std=c11 -Wall -Wextra -Iinclude'
 
 if ! command -v qemu-x86_64 >/dev/null; then
     echo "bench: instructions are counted by qemu-x86_64: install Debian's qemu-user" >&2

@@ -59,11 +59,11 @@ fi
 tests/host/program.sh "$judge_capture" crates/judge_capture/stdin
 tests/host/wrapper.sh crates/judge_capture/stdin
 tests/host/hut.sh $out/hut "$judge_capture"
-# an odd length over 2^32; in the emulator that would take minutes
+# an odd length over 2^32; in the emulator, where that takes a quarter of a minute and more, one over 2^28
 if $x86 native; then
     $x86 run $out/lengths 4294967303
 else
-    $x86 run $out/lengths 16777223
+    $x86 run $out/lengths 268435463
 fi
 $x86 run $out/host-shared >$out/said || fail "from a shared object: $(cat $out/said)"
 sed -n '$s/^host:/& from a shared object:/p' $out/said

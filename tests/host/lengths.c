@@ -1,6 +1,6 @@
 /* Calls the archive with lengths that don't fit 32 bits.
  *
- *     lengths BYTES    sums a block of so many bytes, over 2^32 natively and fewer in an emulator
+ *     lengths BYTES    the block that is summed has so many bytes: over 2^32, or fewer in an emulator
  *
  * Packets, addresses and captures lie before memory that can't be touched: with a length of more than
  * 2^32 a call that looked at a byte behind them would end the program. Each such length is chosen so
