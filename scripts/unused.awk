@@ -226,21 +226,25 @@ END {
     for (i = 1; i <= imports; i++)
         if (i_law[i] == "") brought[i_home[i]] = brought[i_home[i]] " " i
         else if ((i_home[i], i_law[i]) in made) brought[made[i_home[i], i_law[i]]] = brought[made[i_home[i], i_law[i]]] " " i
-    # what nothing cites goes, and then what only its lines cited
-    do {
+    # first what nothing cites, then in turns what only the lines of such a law cite
+    for (round = 1; more || round == 1; round++) {
         more = 0
+        by = round == 1 ? "nothing" : "nothing but what is listed"
         for (d = 1; d <= definitions; d++)
             if (!(d in dead) && !cited(d)) {
-                dead[d] = ++more
-                tell(d_file[d], d_line[d], d_name[d] " is cited by nothing")
-                for (l = d_line[d]; l <= d_end[d]; l++) gone[d_file[d], l] = 1
+                dead[d] = round
+                tell(d_file[d], d_line[d], d_name[d] " is cited by " by)
+                more++
             }
         for (i = 1; i <= imports; i++)
             if (!(i in idle) && !used(i_file[i], i_kind[i], i_name[i], 0, 0)) {
-                idle[i] = ++more
-                tell(i_file[i], i_line[i], "the import " i_name[i] " is not used")
+                idle[i] = round
+                tell(i_file[i], i_line[i], "the import " i_name[i] " is used by " by)
             }
-    } while (more)
+        for (d in dead)
+            if (dead[d] == round)
+                for (l = d_line[d]; l <= d_end[d]; l++) gone[d_file[d], l] = 1
+    }
     if (!found) print "unused: nothing, of " definitions + 0 " definitions and " imports + 0 " imports in " files - 1 " files"
     exit found > 0
 }

@@ -1,7 +1,8 @@
 #!/bin/sh
 # Lists what nothing cites in the crates' .antt and .rt files, and answers 1 if there is any: names that a `use` brings
-# into a file and that the file doesn't use, and definitions and laws that no other line cites. What only such a line
-# cites is listed too. Not listed: what docs/PROMISES.md names, and the F-spec of each proofs/F/Proof.antt.
+# into a file and that the file doesn't use, and definitions and laws that no other line cites. What only the lines of
+# such a law cite is listed too, and said to be. What docs/PROMISES.md names is cited, and so is the F-spec of each
+# proofs/F/Proof.antt, since the kit asks for it.
 #
 #   unused.sh               over this project
 #   unused.sh --self-test   over samples: a clean one, and one with each kind planted
@@ -148,22 +149,22 @@ END
     fi
     sed 's/^crates.a.//; s/:[0-9]*:/:/' "$work/found" | LC_ALL=C sort >"$work/said"
     LC_ALL=C sort >"$work/want" <<'END'
-src/lib.rt: the import Spare is not used
-src/lib.rt: the import f is not used
-src/lib.rt: the import now is not used
-proofs/do_it/Proof.antt: the import other is not used
-proofs/Laws.antt: the import inComment is not used
-proofs/Laws.antt: the import help is not used
-proofs/Laws.antt: the import left is not used
-proofs/Laws.antt: the import _⊞_ is not used
-proofs/Laws.antt: the import [] is not used
-proofs/Laws.antt: the import other is not used
+src/lib.rt: the import Spare is used by nothing
+src/lib.rt: the import f is used by nothing
+src/lib.rt: the import now is used by nothing
+proofs/do_it/Proof.antt: the import other is used by nothing
+proofs/Laws.antt: the import inComment is used by nothing
+proofs/Laws.antt: the import help is used by nothing
+proofs/Laws.antt: the import left is used by nothing
+proofs/Laws.antt: the import _⊞_ is used by nothing
+proofs/Laws.antt: the import [] is used by nothing
+proofs/Laws.antt: the import other is used by nothing
 proofs/Laws.antt: again is cited by nothing
 proofs/Laws.antt: only-by-again is cited by nothing
 proofs/Laws.antt: calls is cited by nothing
-proofs/Laws.antt: only-by-calls is cited by nothing
+proofs/Laws.antt: only-by-calls is cited by nothing but what is listed
 proofs/Laws.antt: inner is cited by nothing
-proofs/Laws.antt: helped is cited by nothing
+proofs/Laws.antt: helped is cited by nothing but what is listed
 proofs/Laws.antt: unhelped is cited by nothing
 specs/Sums.antt: unsaid is cited by nothing
 END
@@ -178,7 +179,7 @@ case ${1:-} in
 '') list . ;;
 --self-test) self_test ;;
 *)
-    sed -n '2,7s/^# \{0,1\}//p' "$0" >&2
+    sed -n '2,8s/^# \{0,1\}//p' "$0" >&2
     exit 2
     ;;
 esac
