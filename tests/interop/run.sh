@@ -21,7 +21,7 @@ fi
 
 archive=$($x86 lib)/libhifrostum.a
 mkdir -p $out
-$x86 cc -O2 -std=c11 -Wall -Wextra -Wpedantic -Iinclude tests/interop/ours.c "$archive" -o $out/ours
+$x86 cc -O2 -std=c11 -Wall -Wextra -Wpedantic -Werror -Iinclude tests/interop/ours.c "$archive" -o $out/ours
 
 # Two namespaces, a and b, and a pair of cards between them that leave the sums to the kernel.
 a=hifrostum-a-$$ b=hifrostum-b-$$ server='' capture=''
