@@ -223,8 +223,8 @@ EACH uint8_t stretch(summing sum, uint8_t *p, size_t len, size_t where, const ui
     {                                                                                                          \
         return stretch(sum_##name, p, n, where, new, new_len);                                                 \
     }                                                                                                          \
-    const struct way name = {words,        name##_field,   name##_judge, name##_mend,                          \
-                             name##_lower, name##_address, name##_stretch}
+    static const struct way name = {words,        name##_field,   name##_judge, name##_mend,                   \
+                                    name##_lower, name##_address, name##_stretch}
 
 WAY(rfc1071, "RFC 1071 loop");
 WAY(wide, "64-bit loop");
@@ -287,4 +287,7 @@ static uint8_t hand_stretch(uint8_t *p, size_t len, size_t where, const uint8_t 
     return 0;
 }
 
-const struct way by_hand = {"RFC 1624 by hand", 0, 0, 0, hand_lower, hand_address, hand_stretch};
+static const struct way by_hand = {"RFC 1624 by hand", 0, 0, 0, hand_lower, hand_address, hand_stretch};
+
+/* BY is by_cc or by_clang. */
+const struct way *const BY[C_WAYS] = {&rfc1071, &wide, &dpdk, &by_hand};

@@ -16,7 +16,8 @@ struct way {
 };
 
 /* The loop of RFC 1071, a 64-bit accumulator, the shape of DPDK's rte_raw_cksum, and RFC 1624 by hand,
- * which has no field, judge or mend. */
-extern const struct way rfc1071, wide, dpdk, by_hand;
+ * which has no field, judge or mend: as one C compiler makes them, and as clang does. */
+enum { C_WAYS = 4 };
+extern const struct way *const by_cc[C_WAYS], *const by_clang[C_WAYS];
 
 #endif

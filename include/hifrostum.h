@@ -1,6 +1,7 @@
 /* Hifrostum: judges, mends and edits the checksums of IP packets.
  *
- * Link with libhifrostum.a, for x86-64:  cc host.c libhifrostum.a
+ * Link with libhifrostum.a, an ELF archive for x86-64 Linux:  cc host.c libhifrostum.a
+ * Its code may stand in a shared object too, and it needs no other library.
  *
  * Who owns what. Every buffer stays the caller's. It is lent for one call, which keeps no pointer,
  * allocates nothing and has no state, so calls on different buffers may run at once. Buffers lent to
@@ -25,6 +26,10 @@
 #ifdef __cplusplus
 extern "C" {
 #endif
+
+/* The version of this surface. It goes up by one whenever a function, a constant, or what an answer
+ * means is added, changed or taken away; CHANGELOG.md says what a host's author must do then. */
+#define HIFROSTUM_SURFACE_VERSION 1
 
 /* What a call answers. */
 enum hifrostum_verdict {
@@ -102,7 +107,27 @@ uint8_t hifrostum_sum_chain(const uint8_t *buffer, size_t len,
 uint16_t hifrostum_field(const uint8_t *bytes, size_t len);
 
 /* The field after the words under it changed from one fold to another, by equation 3 of RFC 1624.
- * Mind the kinds: the first is a field, the other two are folds. Refuses nothing. */
+ * Mind the kinds: the first is a field, the other two are folds. Refuses nothing.
+ *
+ * A fold is 65535 minus hifrostum_field of the bytes, or what hifrostum_sum_chain answers where they
+ * lie in pieces. Each byte counts by its place in the covered block (the pseudo-header, whose length
+ * is even, stands before a message), so the fold of a stretch that begins at an odd place has its
+ * two bytes exchanged:
+ *
+ *     static uint16_t fold_at(size_t place, const uint8_t *bytes, size_t len)
+ *     {
+ *         uint16_t fold = (uint16_t)(65535 - hifrostum_field(bytes, len));
+ *         return place % 2 == 0 ? fold : (uint16_t)(fold << 8 | fold >> 8);
+ *     }
+ *
+ *     static uint16_t renewed(uint16_t field, size_t place, const uint8_t *before,
+ *                             const uint8_t *after, size_t len)
+ *     {
+ *         return hifrostum_update(field, fold_at(place, before, len), fold_at(place, after, len));
+ *     }
+ *
+ * A UDP field that comes to 0000 is sent as FFFF, and one that is 0000 stays: for a packet
+ * hifrostum_set_stretch and the other edits see to all of this. */
 uint16_t hifrostum_update(uint16_t field, uint16_t old_fold, uint16_t new_fold);
 
 #ifdef __cplusplus

@@ -5,8 +5,8 @@ set -eu
 cd "$(dirname "$0")/.."
 seed=${1:-1} count=${2:-1000000} chunk=100000
 
-scripts/setup.sh
-[ -f target/bin/vectors ] || rt check vectors
+scripts/setup.sh run
+rt check vectors
 cargo build --release --offline --quiet --manifest-path tests/second/Cargo.toml --target-dir target/second
 work=$(mktemp -d)
 trap 'rm -rf "$work"' EXIT

@@ -1,27 +1,54 @@
 #!/bin/sh
-# Builds and runs what links the archive: the host test, the same from C++, and the hut; and tries the program.
+# Builds and runs what links the archive: the host test, the same over a shared object and from C++, lengths over 2^32,
+# and the hut; looks at the archive's names; and tries the program and the script that runs it.
 # HIFROSTUM_SKIP_C=1 leaves all of it out. JUDGE_CAPTURE names another program than target/bin/judge_capture.
 set -eu
 cd "$(dirname "$0")/.."
-x86=scripts/x86.sh out=target/c flags='-O2 -std=c11 -Wall -Wextra -Wpedantic -Werror -Iinclude'
+x86=scripts/x86.sh out=target/c flags='-O2 -std=c11 -Wall -Wextra -Wpedantic -Werror -Iinclude -Itarget/c'
 
 if [ "${HIFROSTUM_SKIP_C:-}" = 1 ]; then
     echo "host: HIFROSTUM_SKIP_C=1, so no C program is built or run"
     exit 0
 fi
 
+fail() {
+    echo "host: failed: $*" >&2
+    exit 1
+}
+
 archive=$($x86 lib)/libhifrostum.a
+if [ -z "${JUDGE_CAPTURE:-}" ]; then
+    rt check judge_capture
+fi
 judge_capture=${JUDGE_CAPTURE:-target/bin/judge_capture}
-[ -f "$judge_capture" ] || rt check judge_capture
 mkdir -p $out
 
+# The changes' newest entry is about the header's version.
+version=$(sed -n 's/^#define HIFROSTUM_SURFACE_VERSION //p' include/hifrostum.h)
+[ "$version" = "$(sed -n 's/^## //p' CHANGELOG.md | head -n 1)" ] ||
+    fail "the surface's version is '$version', and the first entry of CHANGELOG.md is another"
+
+# The archive defines for others what the header declares, and asks others for nothing. So no name of it can clash with
+# a host's, and it links whole into a shared object, with no text that the loader would have to change.
+sed -n 's/^[a-z].* \(hifrostum_[a-z_]*\)(.*/\1/p' include/hifrostum.h | LC_ALL=C sort >$out/declared
+$x86 nm -g --defined-only "$archive" | awk 'NF == 3 { print $3 }' | LC_ALL=C sort >$out/defined
+$x86 nm -u "$archive" | awk 'NF == 2' >$out/wanted
+cmp $out/declared $out/defined || fail "the archive's names (in $out/defined) aren't the header's"
+[ ! -s $out/wanted ] || fail "the archive asks for $(cat $out/wanted)"
+echo "host: the archive defines the $(wc -l <$out/defined) functions of the header and no other name, and needs none"
+
+# the README's example and the header's compile as they stand there
+# shellcheck disable=SC2016
+sed -n '/^```c$/,/^```$/{/^```/!p}' README.md >$out/readme.c
+sed -n '/^ \*     static uint16_t fold_at/,/^ \* A UDP/s/^ \*     //p' include/hifrostum.h >$out/example.h
 # shellcheck disable=SC2086
 {
     $x86 cc $flags tests/host/host.c "$archive" -o $out/host
+    $x86 cc $flags tests/host/lengths.c "$archive" -o $out/lengths
     $x86 cc $flags examples/hut/hut.c "$archive" -o $out/hut
-    # the README's example compiles as it stands there
-    sed -n '/^```c$/,/^```$/{/^```/!p}' README.md >$out/readme.c
     $x86 cc $flags $out/readme.c "$archive" -o $out/readme
+    $x86 cc -shared -Wl,-z,text,-z,defs,--whole-archive "$archive" -Wl,--no-whole-archive -o $out/libhifrostum.so
+    $x86 cc $flags tests/host/host.c $out/libhifrostum.so -Wl,-rpath,"$PWD/$out" -o $out/host-shared
 }
 if $x86 has c++; then
     $x86 c++ -O2 -Wall -Wextra -Wpedantic -Werror -Iinclude tests/host/host.cc "$archive" -o $out/host-c++
@@ -30,5 +57,14 @@ else
     echo "host: not linked from C++, since there is no C++ compiler for x86-64 here"
 fi
 tests/host/program.sh "$judge_capture" crates/judge_capture/stdin
+tests/host/wrapper.sh crates/judge_capture/stdin
 tests/host/hut.sh $out/hut "$judge_capture"
+# an odd length over 2^32; in the emulator, where that takes a quarter of a minute and more, one over 2^28
+if $x86 native; then
+    $x86 run $out/lengths 4294967303
+else
+    $x86 run $out/lengths 268435463
+fi
+$x86 run $out/host-shared >$out/said || fail "from a shared object: $(cat $out/said)"
+sed -n '$s/^host:/& from a shared object:/p' $out/said
 $x86 run $out/host

@@ -14,6 +14,9 @@
 
 #include "hifrostum.h"
 
+/* fold_at and renewed, as they stand in the header's comment */
+#include "example.h"
+
 enum { GUARD = 64, FILL = 0xA5, LAYS = 3, SPACE = 1 << 21 };
 
 /* Counting checks */
@@ -330,6 +333,24 @@ static void updates(void)
         uint16_t hc = corners[i / 64], m = corners[i / 8 % 8], n = corners[i % 8];
         expect(hifrostum_update(hc, m, n), 65535 - fold(65535ul - hc + 65535ul - m + n), "update at a corner");
     }
+}
+
+/* The header's example: a stretch at each place of a block, even and odd, and of each length. */
+static void example(void)
+{
+    uint8_t before[40], after[40];
+    for (size_t i = 0; i < 40; i++)
+        before[i] = (uint8_t)(i * i * 7 + 3);
+    for (size_t place = 0; place < 40; place++)
+        for (size_t len = 0; place + len <= 40; len++) {
+            memcpy(after, before, 40);
+            for (size_t i = 0; i < len; i++)
+                after[place + i] = (uint8_t)(place * 31 + i * 5 + 1);
+            uint16_t was = (uint16_t)(65535 - fold(weigh(before, 40)));
+            expect(renewed(was, place, before + place, after + place, len), 65535 - fold(weigh(after, 40)),
+                   "the header's example");
+        }
+    expect(fold_at(1, words, 3), 0x01F2, "a fold at an odd place");
 }
 
 static void chains(void)
@@ -724,6 +745,7 @@ int main(void)
     fields();
     group("field");
     updates();
+    example();
     group("update");
     chains();
     group("sum_chain");

@@ -50,10 +50,11 @@ records 1 good 0 unsummed 0 refused 1' "$(printed)"
 same 'a record of 2,049' 'stopped 15 after 0' "$(printed)"
 
 # A read that fails is told from the end of input, in words.
+words() { if grep -q 'cannot read standard input' "$dir/said"; then echo yes; else cat "$dir/said"; fi; }
 same 'a directory' '' "$("$x86" run "$judge_capture" <"$dir" 2>"$dir/said")"
-same 'a directory, in words' yes "$(grep -q 'cannot read standard input' "$dir/said" && echo yes || cat "$dir/said")"
+same 'a directory, in words' yes "$(words)"
 same 'a closed standard input' '' "$("$x86" run "$judge_capture" <&- 2>"$dir/said")"
-same 'a closed standard input, in words' yes "$(grep -q 'cannot read standard input' "$dir/said" && echo yes || cat "$dir/said")"
+same 'a closed standard input, in words' yes "$(words)"
 
 # A live radio: the first record's line is there while the second is still awaited.
 mkfifo "$dir/radio"

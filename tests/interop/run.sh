@@ -8,7 +8,8 @@ x86=scripts/x86.sh out=target/interop python=/usr/bin/python3
 scripts/setup.sh
 missing=
 for pair in tshark:tshark dumpcap:tshark ip:iproute2 ethtool:ethtool ping:iputils-ping; do
-    command -v "${pair%:*}" >/dev/null || missing="$missing ${pair#*:}"
+    command -v "${pair%:*}" >/dev/null && continue
+    case "$missing " in *" ${pair#*:} "*) ;; *) missing="$missing ${pair#*:}" ;; esac
 done
 $python -c 'import scapy' 2>/dev/null || missing="$missing python3-scapy"
 if [ -n "$missing" ]; then
@@ -20,7 +21,7 @@ fi
 
 archive=$($x86 lib)/libhifrostum.a
 mkdir -p $out
-$x86 cc -O2 -std=c11 -Wall -Wextra -Wpedantic -Iinclude tests/interop/ours.c "$archive" -o $out/ours
+$x86 cc -O2 -std=c11 -Wall -Wextra -Wpedantic -Werror -Iinclude tests/interop/ours.c "$archive" -o $out/ours
 
 # Two namespaces, a and b, and a pair of cards between them that leave the sums to the kernel.
 a=hifrostum-a-$$ b=hifrostum-b-$$ server='' capture=''

@@ -256,6 +256,17 @@ pub fn field(bytes: &[u8]) -> Field {
 }
 
 /// The field after what it covers changed from one fold to another, by equation 3 of RFC 1624.
+///
+/// A fold is 65535 minus the [`field`] of the bytes, or what [`sum_chain`] answers, with its two bytes
+/// exchanged where the bytes begin at an odd place of what the field covers:
+///
+/// ```
+/// use hifrostum::{field, update, Fold};
+/// let (before, after) = ([0x12, 0x34, 0x56, 0x78], [0x12, 0xAB, 0xCD, 0x78]);
+/// let fold_at_1 = |bytes| Fold((65535 - field(bytes).0).swap_bytes());
+/// let (old, new) = (fold_at_1(&before[1..3]), fold_at_1(&after[1..3]));
+/// assert_eq!(update(field(&before), old, new), field(&after));
+/// ```
 pub fn update(field: Field, old: Fold, new: Fold) -> Field {
     Field(unsafe { c::hifrostum_update(field.0, old.0, new.0) })
 }

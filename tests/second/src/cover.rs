@@ -154,7 +154,7 @@ impl Cover {
         if verdict != GOOD || length == 0 {
             return;
         }
-        let parity = |number: u64| if number.is_multiple_of(2) { "even" } else { "odd" };
+        let parity = |number: u64| if number % 2 == 0 { "even" } else { "odd" };
         self.reach(format!("{kind}: stretch at {} place, {} length", parity(place), parity(length as u64)));
         let start = before.header_length() + before.body_offset() + place as usize;
         if before.bytes[start..].starts_with(&case.two) {

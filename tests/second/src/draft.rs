@@ -108,7 +108,7 @@ pub fn declare(packet: &mut [u8], family: u8, length: usize) {
 pub fn refresh(packet: &mut [u8], family: u8) {
     let view = View::read_as(packet, family);
     let place = view.field_place();
-    let room = view.row().is_some_and(|row| view.message().len() >= row.field + 2);
+    let room = view.row().map_or(false, |row| view.message().len() >= row.field + 2);
     if room {
         let field = fresh_message_field(&view);
         write_field(packet, place, field);

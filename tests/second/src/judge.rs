@@ -34,11 +34,11 @@ fn fragment(view: &View) -> bool {
 }
 
 fn uncovered(view: &View) -> bool {
-    !view.row().is_some_and(|row| row.families.contains(&view.family))
+    !view.row().map_or(false, |row| row.families.contains(&view.family))
 }
 
 fn message_short(view: &View) -> bool {
-    view.row().is_some_and(|row| view.message_length() < row.fixed)
+    view.row().map_or(false, |row| view.message_length() < row.fixed)
 }
 
 fn length_wrong(view: &View) -> bool {

@@ -59,17 +59,14 @@ fn main() -> ExitCode {
 }
 
 fn run(words: &[&str]) -> Result<(), Failure> {
-    let Some((name, rest)) = words.split_first() else {
-        return Err(Failure::Usage("A command is missing.".into()));
-    };
+    let (name, rest) = words.split_first().ok_or_else(|| Failure::Usage("A command is missing.".into()))?;
     if *name == "--help" {
         println!("The second implementation of the rules paper. The case format is in CASES.md.\n");
         COMMANDS.iter().for_each(help);
         return Ok(());
     }
-    let Some(command) = COMMANDS.iter().find(|command| command.0 == *name) else {
-        return Err(Failure::Usage(format!("There is no command `{name}`.")));
-    };
+    let command = COMMANDS.iter().find(|command| command.0 == *name);
+    let command = command.ok_or_else(|| Failure::Usage(format!("There is no command `{name}`.")))?;
     if rest.contains(&"--help") {
         help(command);
         return Ok(());

@@ -141,7 +141,7 @@ impl<'a> View<'a> {
 
     /// The pseudo-header, empty for a protocol without one.
     pub fn pseudo_header(&self) -> Vec<u8> {
-        if !self.row().is_some_and(|row| row.pseudo) {
+        if !self.row().map_or(false, |row| row.pseudo) {
             return Vec::new();
         }
         let mut pseudo = self.stretch(self.address_place(0), 2 * self.address_length());

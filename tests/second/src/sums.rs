@@ -22,7 +22,7 @@ pub struct Partial {
 pub fn total_at(position: usize, bytes: &[u8]) -> u128 {
     let mut total = 0;
     for (i, byte) in bytes.iter().enumerate() {
-        let weight = if (position + i).is_multiple_of(2) { 256 } else { 1 };
+        let weight = if (position + i) % 2 == 0 { 256 } else { 1 };
         total += weight * u128::from(*byte);
     }
     total
@@ -50,7 +50,7 @@ pub fn field(fold: Fold) -> Field {
 /// Whether a block with its field in place passes.
 pub fn passes(block: &[u8]) -> bool {
     let total = total(block);
-    total > 0 && total.is_multiple_of(65535)
+    total > 0 && total % 65535 == 0
 }
 
 /// The fold with its two bytes exchanged.
