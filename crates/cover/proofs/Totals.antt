@@ -4,7 +4,6 @@ use Prim.Native.Nat.{ℕ, _+_, _<_}
 use native.Mathlib.Omega.{arith}
 use mathlib.Core.List.{List}
 use mathlib.Core.Bool.{true, false}
-use lib.ListN.{length}
 use Rattle.verdicts.specs.Choice.{if_then_else_}
 use Rattle.verdicts.proofs.Tests.{by-cases}
 use Rattle.sums.specs.Total.{weigh, total}

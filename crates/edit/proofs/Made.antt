@@ -17,7 +17,7 @@ use Rattle.sums.specs.Update.{updated}
 use Rattle.sums.proofs.Folds.{fold-fixed}
 use Rattle.wire.specs.Bytes.{byteAt, wordAt, part, put, putWord, odd}
 use Rattle.wire.specs.Outer.{addressesAt, familyOf, four, headerField}
-use Rattle.wire.specs.Inner.{Holds, silentOf, startOf}
+use Rattle.wire.specs.Inner.{Holds, startOf}
 use Rattle.wire.specs.declared.Message.{Message}
 use Rattle.wire.proofs.Held.{held-silent}
 use Rattle.mend.specs.Fresh.{sent}

@@ -1,10 +1,9 @@
 -- The tail is neither judged nor read: packets that agree up to the declared end have the same verdict.
-use mathlib.Core.Path.{_≡_, sym, ap, ap₂, _∙_}
+use mathlib.Core.Path.{_≡_, sym, ap, _∙_}
 use mathlib.Core.Logic.{⊎-elim}
-use Prim.Native.Nat.{ℕ, _+_, _-_, _%_, _<_, _≤_}
+use Prim.Native.Nat.{ℕ, _+_, _-_, _<_, _≤_}
 use native.Mathlib.Omega.{arith}
 use mathlib.Core.List.{List, _++_}
-use mathlib.Core.Bool.{not}
 use lib.ListN.{length, length-append, List·getD-append}
 use borrow.Author.Tests.{le-ltb, ne-eqb}
 use Rattle.verdicts.specs.Rules.{Rule, verdictBy, clear}
@@ -14,8 +13,7 @@ use Rattle.verdicts.proofs.Rules.{first-append, clear-first}
 use Rattle.verdicts.proofs.Telling.{next}
 use Rattle.wire.specs.Bytes.{byteAt, part}
 use Rattle.wire.specs.Outer.{four, leastOf, headerEnd, declaredEnd, addressesAt, addressesLength, outerRules, fragmentRule}
-use Rattle.wire.specs.Inner.{startOf, carriedOf, endOf, messageBytes, silentOf, messageRules, headerBytes, addressesOf, coveredOf}
-use Rattle.wire.specs.declared.Family.{Family}
+use Rattle.wire.specs.Inner.{startOf, carriedOf, endOf, messageBytes, silentOf, messageRules, headerBytes, addressesOf}
 use Rattle.wire.proofs.Parts.{part-same}
 use Rattle.wire.proofs.Facts.{OuterFacts, outer-facts, begins}
 use Rattle.wire.proofs.Same.{SameHeader, four-same, six-same, family-same, header-end-same, declared-same, protocol-same, fragment-same, start-same}

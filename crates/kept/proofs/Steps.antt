@@ -14,7 +14,7 @@ use Rattle.sums.specs.Total.{weigh}
 use Rattle.sums.specs.Update.{updated}
 use Rattle.wire.specs.Bytes.{byteAt, wordAt, part, put, putWord, odd, Bytes}
 use Rattle.wire.specs.Outer.{addressesAt, four, headerEnd, headerField, lifetimeAt, versionOf}
-use Rattle.wire.specs.Inner.{fieldAt, silentOf, startOf, udp, wholeRules}
+use Rattle.wire.specs.Inner.{fieldAt, silentOf, udp, wholeRules}
 use Rattle.wire.proofs.Writes.{Wrote, bytes-word, bytes-wrote, put-wrote, word-above, word-below}
 use Rattle.wire.proofs.Same.{Same, four-same, same-self, same-step, soft-header}
 use Rattle.wire.proofs.Facts.{Facts}

@@ -13,7 +13,7 @@ use Rattle.wire.specs.Bytes.{byteAt, wordAt, putWord, Bytes}
 use Rattle.wire.specs.Outer.{four, headerField}
 use Rattle.wire.specs.Inner.{fieldAt, silentOf, udp, wholeRules}
 use Rattle.wire.proofs.Writes.{bytes-word, bytes-wrote, word-above, word-below, word-wrote}
-use Rattle.wire.proofs.Same.{silent-at, Same, field-same, four-same, same-self, udp-same}
+use Rattle.wire.proofs.Same.{silent-at, Same, field-same, four-same, same-self}
 use Rattle.wire.proofs.Facts.{Facts}
 use Rattle.cover.specs.Sums.{headerTotal, messageTotal}
 use Rattle.mend.specs.Fresh.{sent, freshHeader, freshMessage, HeaderFresh, MessageFresh}

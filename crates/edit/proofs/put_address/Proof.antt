@@ -1,10 +1,9 @@
 -- The address is written, and the fields are those that the definition gives.
 use mathlib.Core.Path.{_≡_}
-use Prim.Native.Nat.{ℕ, _+_, _≤_}
+use Prim.Native.Nat.{ℕ}
 use native.Mathlib.Omega.{arith}
 use mathlib.Core.List.{List}
 use denote.Ref.{now}
-use Rattle.wire.specs.Outer.{addressesAt, addressesLength}
 use Rattle.wire.specs.Inner.{fieldAt, startOf}
 use Rattle.wire.proofs.Facts.{Facts}
 use Rattle.wire.proofs.Held.{held-facts}
