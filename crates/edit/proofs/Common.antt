@@ -4,17 +4,16 @@ use mathlib.Core.Path.{_≡_, sym, _∙_}
 use mathlib.Core.Bool.{true, false}
 use mathlib.Core.List.{List, _++_}
 use native.Mathlib.Omega.{arith}
-use borrow.Author.Tests.{eq-eqb, ne-eqb, eqb-true}
 use Rattle.verdicts.specs.Rules.{Rule, first}
 use Rattle.verdicts.specs.declared.Verdict.{Verdict}
 use Rattle.verdicts.specs.declared.Verdict.the-variants.{Missing}
 use Rattle.verdicts.proofs.Tests.{by-cases}
 use Rattle.verdicts.proofs.Rules.{first-append, first-map, first-is, clear-both}
-use Rattle.wire.specs.Outer.{four, fragmentRule, outerRules, six, versionOf}
+use Rattle.wire.specs.Outer.{four, fragmentRule, outerRules}
 use Rattle.wire.specs.Inner.{Holds, messageOf, messageRules, silentOf, wholeOf, wholeRules}
 use Rattle.wire.specs.declared.Message.{Message}
 use Rattle.wire.specs.declared.Part.the-variants.{Refused, Whole}
-use Rattle.wire.proofs.Held.{parted, after-whole, held-whole, held-facts}
+use Rattle.wire.proofs.Held.{parted, after-whole, held-whole}
 use Rattle.judge.specs.Judge.{missingRule}
 use Rattle.kept.specs.Edits.{editRules}
 use Rattle.edit.specs.Steps.{editableOf}
@@ -29,18 +28,15 @@ refused-whole p v e = simp (editable-as, sym e)
 
 module _ (p : List ℕ) (m : Message) (e : Whole m ≡ wholeOf p) where
   pub missing6 : four p ≡ false → silentOf p ≡ true → Refused Missing ≡ editableOf p
-  missing6 f s =
-      let six : six p ≡ true = eq-eqb (versionOf p) 6 (held-facts (held-whole p m e .holds) .outer .six f .1) in
-      simp (editable-as, sym e, s, six)
+  missing6 f s = simp (editable-as, sym e, s, f)
 
   pub summed6 : silentOf p ≡ false → Whole m ≡ editableOf p
   summed6 s = rw (held-whole p m e .holds .is) (sym (simp (editable-as, sym e, s)))
 
   pub whole-four : four p ≡ true → Whole m ≡ editableOf p
   whole-four f =
-      let six : six p ≡ false = ne-eqb (versionOf p) 6 (λ v. omega (arith, eqb-true (versionOf p) 4 f)) in
       by-cases (silentOf p)
-      (λ s. rw (held-whole p m e .holds .is) (sym (simp (editable-as, sym e, s, six))))
+      (λ s. rw (held-whole p m e .holds .is) (sym (simp (editable-as, sym e, s, f))))
       (λ s. summed6 s)
 
 -- ---- rules after them

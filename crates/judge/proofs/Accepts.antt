@@ -65,22 +65,22 @@ module _ (p : List ℕ) where
       (sym (clear-first (messageRules p) part.Refused (part.Whole (messageOf p)) (s .inner)))
 
   -- the message's verdict, by its tests
-  pub verdict-good : (four p ≡ false → versionOf p ≡ 6) → messageVerdict p ≡ Good → (silentOf p ≡ false) × (messageSums p ≡ true)
-  verdict-good v e =
+  pub verdict-good : messageVerdict p ≡ Good → (silentOf p ≡ false) × (messageSums p ≡ true)
+  verdict-good e =
       by-cases (silentOf p)
       (λ u. by-cases (four p)
       (λ f. absurd (omega (arith, ap numberOf (unsummed p u f ∙ e))))
-      (λ f. absurd (omega (arith, ap numberOf (missing p u (v f) ∙ e)))))
+      (λ f. absurd (omega (arith, ap numberOf (missing p u f ∙ e)))))
       (λ u. by-cases (messageSums p)
       (λ m. (u, m))
       (λ m. absurd (omega (arith, ap numberOf (bad p u m ∙ e)))))
 
-  pub verdict-unsummed : (four p ≡ false → versionOf p ≡ 6) → messageVerdict p ≡ Unsummed → (silentOf p ≡ true) × (four p ≡ true)
-  verdict-unsummed v e =
+  pub verdict-unsummed : messageVerdict p ≡ Unsummed → (silentOf p ≡ true) × (four p ≡ true)
+  verdict-unsummed e =
       by-cases (silentOf p)
       (λ u. by-cases (four p)
       (λ f. (u, f))
-      (λ f. absurd (omega (arith, ap numberOf (missing p u (v f) ∙ e)))))
+      (λ f. absurd (omega (arith, ap numberOf (missing p u f ∙ e)))))
       (λ u. by-cases (messageSums p)
       (λ m. absurd (omega (arith, ap numberOf (good p u m ∙ e))))
       (λ m. absurd (omega (arith, ap numberOf (bad p u m ∙ e)))))

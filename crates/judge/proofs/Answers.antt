@@ -1,14 +1,12 @@
 -- Each answer of the judge, from the facts that lead to it.
 use mathlib.Core.Path.{_≡_, sym}
 use Prim.Native.Nat.{ℕ}
-use native.Mathlib.Omega.{arith}
 use mathlib.Core.List.{List}
 use mathlib.Core.Bool.{true, false}
-use borrow.Author.Tests.{eq-eqb, ne-eqb, eqb-true}
 use Rattle.verdicts.specs.declared.Verdict.{Verdict}
 use Rattle.verdicts.specs.declared.Verdict.the-variants.{Good, Unsummed, HeaderSum, Fragment, Missing, MessageSum}
 use Rattle.sums.specs.Fold.{passes}
-use Rattle.wire.specs.Outer.{four, six, versionOf, outerOf, fragmentOf}
+use Rattle.wire.specs.Outer.{four, outerOf, fragmentOf}
 use Rattle.wire.specs.Inner.{silentOf, innerOf}
 use Rattle.wire.specs.declared.Header.{Header}
 use Rattle.wire.specs.declared.Frame.the-variants.{Refused, Ip}
@@ -42,13 +40,11 @@ module _ (p : List ℕ) (h : Header) (e : Ip h ≡ outerOf p) where
 module _ (p : List ℕ) where
   pub unsummed : silentOf p ≡ true → four p ≡ true → Unsummed ≡ messageVerdict p
   unfolding messageVerdict sumRules
-  unsummed u f =
-      let n : six p ≡ false = ne-eqb (versionOf p) 6 (λ e. omega (arith, eqb-true (versionOf p) 4 f)) in
-      simp (u, n, f)
+  unsummed u f = simp (u, f)
 
-  pub missing : silentOf p ≡ true → versionOf p ≡ 6 → Missing ≡ messageVerdict p
+  pub missing : silentOf p ≡ true → four p ≡ false → Missing ≡ messageVerdict p
   unfolding messageVerdict sumRules
-  missing u v = simp (u, eq-eqb (versionOf p) 6 v)
+  missing u f = simp (u, f)
 
   pub bad : silentOf p ≡ false → messageSums p ≡ false → MessageSum ≡ messageVerdict p
   unfolding messageVerdict sumRules

@@ -120,7 +120,7 @@ good-by-rfc p b = (there, back)
     there e =
         let a = accepted p Good (omega arith) e in
         let s = shaped p (a .0) in
-        let t = verdict-good p (s .six) (a .2) in (
+        let t = verdict-good p (a .2) in (
           a .0,
           by-cases (four p)
               (λ f. let v = eqb-true (versionOf p) 4 f in inl ((v, header4 p b f .1 (a .1)), right4 p b s v .1 t))
@@ -145,7 +145,7 @@ unsummed-by-rfc p b = (there, back)
     there e =
         let a = accepted p Unsummed (omega arith) e in
         let s = shaped p (a .0) in
-        let t = verdict-unsummed p (s .six) (a .2) in
+        let t = verdict-unsummed p (a .2) in
         let z = silent4 p b s (t .1) .0 (t .0) in
         (a .0, (eqb-true (versionOf p) 4 (t .1), header4 p b (t .1) .1 (a .1)), z .0, z .1)
 

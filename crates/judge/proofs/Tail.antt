@@ -16,7 +16,7 @@ use Rattle.wire.specs.Outer.{four, leastOf, headerEnd, declaredEnd, addressesAt
 use Rattle.wire.specs.Inner.{startOf, carriedOf, endOf, messageBytes, silentOf, messageRules, headerBytes, addressesOf}
 use Rattle.wire.proofs.Parts.{part-same}
 use Rattle.wire.proofs.Facts.{OuterFacts, outer-facts, begins}
-use Rattle.wire.proofs.Same.{SameHeader, four-same, six-same, family-same, header-end-same, declared-same, protocol-same, fragment-same, start-same}
+use Rattle.wire.proofs.Same.{SameHeader, four-same, family-same, header-end-same, declared-same, protocol-same, fragment-same, start-same}
 use Rattle.cover.specs.Sums.{headerTotal, messageTotal, headerSums, messageSums}
 use Rattle.judge.specs.Judge.{headerSumRule, sumRules, judgeRules, judgeOf}
 
@@ -91,7 +91,7 @@ module _ (p q : List ℕ) (c : clear (outerRules p)) (long : declaredEnd p ≤ l
 
   rest-kept : rest q ≡ rest p
   unfolding sumRules
-  rest-kept = rw (header-kept, fragment-same header, rules-kept, silent-kept, six-same header, four-same header, sums-kept)
+  rest-kept = rw (header-kept, fragment-same header, rules-kept, silent-kept, four-same header, sums-kept)
 
 -- q has at least the bytes that p declares, and the same ones
 pub tail-unread : (p q : List ℕ) → clear (outerRules p) → declaredEnd p ≤ length q → ((i : ℕ) → i < declaredEnd p → byteAt q i ≡ byteAt p i) → judgeOf q ≡ judgeOf p

@@ -5,7 +5,7 @@ use mathlib.Core.Bool.{not, _&&_}
 use Rattle.verdicts.specs.Rules.{Rule, _⇒_, verdictBy}
 use Rattle.verdicts.specs.declared.Verdict.{Verdict}
 use Rattle.verdicts.specs.declared.Verdict.the-variants.{Unsummed, HeaderSum, Missing, MessageSum}
-use Rattle.wire.specs.Outer.{four, six, outerRules, fragmentRule}
+use Rattle.wire.specs.Outer.{four, outerRules, fragmentRule}
 use Rattle.wire.specs.Inner.{silentOf, messageRules}
 use Rattle.cover.specs.Sums.{headerSums, messageSums}
 
@@ -14,7 +14,7 @@ headerSumRule p = (not (headerSums p) ⇒ HeaderSum) ∷ []
 
 -- UDP zero: 8 over IPv6, 1 over IPv4
 abbrev pub missingRule : List ℕ → List Rule
-missingRule p = (silentOf p && six p ⇒ Missing) ∷ []
+missingRule p = (silentOf p && not (four p) ⇒ Missing) ∷ []
 
 abbrev pub unsummedRule : List ℕ → List Rule
 unsummedRule p = (silentOf p && four p ⇒ Unsummed) ∷ []

@@ -6,21 +6,19 @@ use native.Mathlib.Omega.{arith}
 use mathlib.Core.List.{List}
 use mathlib.Core.Bool.{true, false, true≢false}
 use lib.ListN.{length}
-use borrow.Author.Tests.{eq-eqb}
 use Rattle.verdicts.specs.Rules.{clear}
 use Rattle.verdicts.proofs.Tests.{by-cases}
 use Rattle.verdicts.proofs.Rules.{clear-both}
 use Rattle.sums.specs.Total.{weigh}
 use Rattle.sums.specs.Update.{updated}
 use Rattle.wire.specs.Bytes.{byteAt, wordAt, part, put, putWord, odd, Bytes}
-use Rattle.wire.specs.Outer.{addressesAt, four, headerEnd, headerField, lifetimeAt, versionOf}
+use Rattle.wire.specs.Outer.{addressesAt, four, headerEnd, headerField, lifetimeAt}
 use Rattle.wire.specs.Inner.{fieldAt, silentOf, udp, wholeRules}
 use Rattle.wire.proofs.Writes.{Wrote, bytes-word, bytes-wrote, put-wrote, word-above, word-below}
 use Rattle.wire.proofs.Same.{Same, four-same, same-self, same-step, soft-header}
 use Rattle.wire.proofs.Facts.{Facts}
 use Rattle.cover.specs.Sums.{messageTotal, headerSums}
 use Rattle.judge.specs.Judge.{missingRule}
-use Rattle.judge.proofs.Accepts.{shaped}
 use Rattle.mend.specs.Fresh.{sent}
 use Rattle.mend.specs.Mend.{Outside}
 use Rattle.mend.proofs.Numbers.{sent-small}
@@ -39,7 +37,7 @@ accepted p c =
     accepted-whole p (w .0)
     (λ u. by-cases (four p)
     (λ f. f)
-    (λ f. absurd (true≢false (simp (u, eq-eqb (versionOf p) 6 (shaped p (w .0) .six f)) at (w .1 .0)))))
+    (λ f. absurd (true≢false (simp (u, f) at (w .1 .0)))))
 
 -- what an edit leaves: new bytes at a place, and beside them only the fields
 pub record Kept (p q : List ℕ) (at : ℕ) (new : List ℕ) : Type 0 where

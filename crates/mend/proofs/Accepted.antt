@@ -3,16 +3,15 @@ use mathlib.Core.Path.{_≡_, sym, ap, _∙_}
 use Prim.Native.Nat.{ℕ}
 use mathlib.Core.List.{List, _∷_, _++_}
 use mathlib.Core.Bool.{true, false, not}
-use borrow.Author.Tests.{eq-eqb}
 use Rattle.verdicts.specs.Rules.{Rule, _⇒_, first, clear}
 use Rattle.verdicts.specs.declared.Verdict.{Verdict}
 use Rattle.verdicts.specs.declared.Verdict.the-variants.{Good, HeaderSum, Fragment}
 use Rattle.verdicts.proofs.Rules.{first-append, first-same, clear-join}
 use Rattle.verdicts.proofs.Tests.{by-cases}
-use Rattle.wire.specs.Outer.{four, six, versionOf, fragmentOf, fragmentRule, outerRules}
+use Rattle.wire.specs.Outer.{four, fragmentOf, fragmentRule, outerRules}
 use Rattle.wire.specs.Inner.{messageRules, silentOf, wholeRules}
-use Rattle.wire.proofs.Facts.{Facts, facts, outer-facts}
-use Rattle.wire.proofs.Same.{Same, four-same, six-same, outer-same, fragment-same, message-same}
+use Rattle.wire.proofs.Facts.{Facts, facts}
+use Rattle.wire.proofs.Same.{Same, four-same, outer-same, fragment-same, message-same}
 use Rattle.cover.specs.Sums.{headerSums, messageSums}
 use Rattle.judge.specs.Judge.{sumRules, judgeRules, judgeOf}
 use Rattle.judge.proofs.Accepts.{shaped}
@@ -50,13 +49,8 @@ module _ {p q : List ℕ} (s : Same p q) (h : headerSums q ≡ headerSums p) (m 
   unfolding sumRules
   sum-kept w =
       let u = m w in
-      let k = outer-facts p (shaped p w .outer) in
       by-cases (silentOf p)
-      (λ t. by-cases (four p)
-      (λ f. by-cases (six p)
-      (λ x. simp (u .silent, six-same (s .header), t, x))
-      (λ x. simp (u .silent, six-same (s .header), four-same (s .header), t, x, f)))
-      (λ f. simp (u .silent, six-same (s .header), t, eq-eqb (versionOf p) 6 (k .six f .1))))
+      (λ t. by-cases (four p) (λ f. simp (u .silent, four-same (s .header), t, f)) (λ f. simp (u .silent, four-same (s .header), t, f)))
       (λ t. simp (u .silent, t, u .sums t))
 
   -- the layout, the header's sum, and the message's where it has one

@@ -29,7 +29,7 @@ use Rattle.judge.specs.Judge.{judgeOf}
 use Rattle.judge.specs.Cases.{wholeCases}
 use Rattle.judge.proofs.Exactly.{whole-told}
 use Rattle.judge.proofs.Answers.{good, unsummed, sums4, sums6}
-use Rattle.judge.proofs.Accepts.{shaped, accepted, accepting, verdict-good, verdict-unsummed}
+use Rattle.judge.proofs.Accepts.{accepted, accepting, verdict-good, verdict-unsummed}
 use Rattle.mend.specs.Fresh.{sent, freshHeader, freshMessage, HeaderFresh, MessageFresh}
 use Rattle.mend.specs.Mend.{mendedHeader, mendedMessage, mendOf, Outside, Full}
 use Rattle.verdicts.proofs.Calls.{call-answers, call-refused, call-clear, call-done, call-either}
@@ -209,10 +209,10 @@ good-passes p =
     ⊎-elim
     (λ e.
     let a = accepted p Good (omega arith) e in
-    record { whole = a .0; header = a .1; message = λ u. verdict-good p (shaped p (a .0) .six) (a .2) })
+    record { whole = a .0; header = a .1; message = λ u. verdict-good p (a .2) })
     (λ e.
     let a = accepted p Unsummed (omega arith) e in
-    let v = verdict-unsummed p (shaped p (a .0) .six) (a .2) in
+    let v = verdict-unsummed p (a .2) in
     record { whole = a .0; header = a .1; message = λ u. absurd (true≢false (simp (v .0, v .1) at u)) })
 
 -- of a good packet, or an unsummed one, a byte can change only where a field other than UDP's stands at FFFF and the fresh

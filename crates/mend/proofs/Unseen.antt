@@ -15,7 +15,7 @@ use Rattle.wire.proofs.Writes.{put-wrote, word-above, word-below}
 use Rattle.wire.proofs.Same.{Same, four-same, same-self, same-step, soft-message}
 use Rattle.cover.specs.Sums.{headerTotal, messageTotal, headerSums, messageSums}
 use Rattle.judge.specs.Judge.{judgeOf}
-use Rattle.judge.proofs.Accepts.{shaped, verdict-good}
+use Rattle.judge.proofs.Accepts.{verdict-good}
 use Rattle.judge.proofs.Accepts.{accepted as judge·accepted}
 use Rattle.cover.proofs.Blocks.{header-out, message-word}
 use Rattle.mend.proofs.Fresh.{silent-carry}
@@ -25,7 +25,7 @@ use Rattle.mend.proofs.Accepted.{Accepted, accepted-whole, judge-kept}
 good-message : (p : List ℕ) → judgeOf p ≡ Good → Accepted p × (messageSums p ≡ true)
 good-message p g =
     let a = judge·accepted p Good (omega arith) g in
-    let v = verdict-good p (shaped p (a .0) .six) (a .2) in
+    let v = verdict-good p (a .2) in
     (accepted-whole p (a .0) (λ u. absurd (true≢false (sym u ∙ v .0))), v .1)
 
 -- where the header and the message's field stay, the verdict is the message's sum's

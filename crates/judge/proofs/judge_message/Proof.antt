@@ -29,7 +29,7 @@ returns : tie.Need-returns
 returns c = let q = c .before .before .before in let b = q .before .before in unsummed (P b) (sym (quiet q) ∙ c .before .before .if1 .taken) (is-four (P b) (sym (family b) ∙ c .enum-told .given .1))
 
 returns-2 : tie.Need-returns-2
-returns-2 c = let q = c .before .before .before in let b = q .before .before in missing (P b) (sym (quiet q) ∙ c .before .before .if1 .taken) (held-facts (b .pre) .outer .six (is-six (P b) (sym (family b) ∙ c .enum-told2 .given .1)) .1)
+returns-2 c = let q = c .before .before .before in let b = q .before .before in missing (P b) (sym (quiet q) ∙ c .before .before .if1 .taken) (is-six (P b) (sym (family b) ∙ c .enum-told2 .given .1))
 
 returns-3 : tie.Need-returns-3
 returns-3 c = let l = c .before .before in good _ (sym (quiet (l .before)) ∙ l .if1 .left) (sym (c .before .message-sums .ensures) ∙ c .if2 .taken)
