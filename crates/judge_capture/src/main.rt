@@ -44,7 +44,7 @@ fn turn(state: State, bytes: &mut [u8]) -> Step {
         return Step::Done;
     }
     let count = got.count;
-    let mut out = [0u8; 128];
+    let mut out = [0u8; lines::LINE];
     let fed = lines::feed(state, &bytes[..count], &mut out);
     let written = fed.written;
     if !io::write_all(STDOUT_FILENO, &out[..written]) {

@@ -203,7 +203,7 @@ fn printed(input: &[u8], page: &mut [u8], at: usize) -> usize {
 }
 
 fn show(state: State, bytes: &[u8], page: &mut [u8], at: usize) -> Shown {
-    let mut out = [0u8; 128];
+    let mut out = [0u8; lines::LINE];
     let fed = lines::feed(state, bytes, &mut out);
     let written = fed.written;
     let next = fed.state;
