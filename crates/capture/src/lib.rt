@@ -28,7 +28,7 @@ pub const CAPTURE_HEAD: usize = 5;
 // A record's head is its packet's length, which is at most this.
 pub const RECORD_HEAD: usize = 2;
 
-const MOST: usize = 2048;
+pub const MOST: usize = 2048;
 
 // What a record's head says: nothing is there, something is damaged, or a packet of so many bytes follows.
 pub enum Head {

@@ -24,6 +24,9 @@ ghost use Rattle.lines.specs.Text.{lineSize, _then_};
 ghost use Rattle.lines.specs.Lines.{textOf, pairText, totalsText};
 ghost use Rattle.lines.specs.Feed.{startOf, wantOf, more as Feed·more, tallied, stopping, judging, afterCaptureHead, afterRecordHead, afterPacket, decidedOf, fedOf};
 
+// No more bytes are wanted at once: the longest packet.
+pub const PIECE: usize = capture::MOST;
+
 // No line is longer than this.
 pub const LINE: usize = 128;
 
