@@ -7,18 +7,21 @@ use mathlib.Core.List.{List, [], _∷_, _++_}
 use mathlib.Core.Bool.{Bool, true, false}
 use lib.ListN.{length, take, drop, length-take, length-drop}
 use lib.Seq.{take-take, drop-drop}
+use lib.Dec.{eqb, ltb}
 use borrow.Author.Tests.{ne-eqb, lt-ltb, le-ltb}
 use Rattle.verdicts.specs.Choice.{if_then_else_}
 use Rattle.verdicts.specs.Numbers.{numberOf}
 use Rattle.verdicts.specs.declared.Verdict.the-variants.{Mark, Edition, Record}
 use Rattle.verdicts.proofs.Tests.{by-cases}
-use Rattle.capture.specs.Records.{captureHead, recordHead, headOf, packet, behind, Records, none, ruin, _before_, readOf, otherMark, otherEdition}
+use Rattle.verdicts.proofs.Rules.{first-either}
+use Rattle.capture.specs.Records.{captureHead, recordHead, most, headOf, packet, behind, Records, none, ruin, _before_, readOf, otherMark, otherEdition}
+use Rattle.capture.specs.Judged.{headRules}
 use Rattle.capture.specs.declared.Head.{Head}
 use Rattle.capture.specs.declared.Head.the-variants.{End, Damaged, Packet}
-use Rattle.capture.proofs.Reading.{head-none, head-taken, Headed, Damage, in-head, in-packet, by-reading}
+use Rattle.capture.proofs.Reading.{Says, head-none, head-says, head-taken, Headed, Damage, in-head, in-packet, by-reading}
 use Rattle.capture.proofs.Heads.{mark-taken, edition-taken, edition-long}
 use Rattle.lines.specs.Lines.{verdictOn, recordLines, howMany, isGood, isUnsummed, isRefused, lastLine, linesOf}
-use Rattle.lines.specs.Feed.{zeros, startOf, wantOf, largest, more, tallied, stopping, judging, ending, going, byHead, decidedOf}
+use Rattle.lines.specs.Feed.{zeros, startOf, wantOf, largest, more, tallied, stopping, judging, ending, going, byHead, decidedIn, decidedOf}
 use Rattle.lines.specs.Run.{_onto_, runBy}
 use Rattle.lines.specs.declared.Phase.{Phase}
 use Rattle.lines.specs.declared.Phase.the-variants as phase
@@ -41,6 +44,22 @@ turn : (k : ℕ) (s : State) (xs : List ℕ) (d : Decided) → (wantOf s ≡ 0 �
     → runBy (suc k) s xs ≡ d .line onto runBy k (d .state) (drop (wantOf s) xs)
 unfolding runBy
 turn k s xs d n e = simp (ne-eqb (wantOf s) 0 n, sym e)
+
+-- ---- what is wanted
+wants-by : (t : Tally) (xs : List ℕ) (h : Head) → Says xs h → wantOf (byHead t h .state) ≤ most
+wants-by t xs End s = omega arith
+wants-by t xs Damaged s = omega arith
+wants-by t xs (Packet n) s = by-cases (eqb n 0) (λ b. rw b (omega arith)) (λ b. rw b (s .small))
+
+wants-in : (p : Phase) (t : Tally) (bytes : List ℕ) → wantOf (decidedIn p t bytes .state) ≤ most
+wants-in phase.CaptureHead t bytes = first-either (λ (d : Decided). wantOf (d .state) ≤ most) (headRules bytes) _ _ (λ v. omega arith) (λ c. omega arith)
+wants-in phase.RecordHead t bytes = wants-by t bytes (headOf bytes) (head-says bytes)
+wants-in (phase.Packet size) t bytes = by-cases (ltb (length bytes) size) (λ b. rw b (omega arith)) (λ b. rw b (omega arith))
+wants-in phase.Stopped t bytes = omega arith
+
+-- no more bytes are ever wanted at once than the longest packet has
+pub wants-small : (s : State) (bytes : List ℕ) → wantOf (decidedOf s bytes .state) ≤ most
+wants-small s bytes = wants-in (s .phase) (s .tally) bytes
 
 -- ---- what is counted on the way
 -- the counts of some records more
