@@ -1,5 +1,5 @@
 -- Each answer to a capture, from the facts that lead to it.
-use mathlib.Core.Path.{_≡_}
+use mathlib.Core.Path.{_≡_, refl}
 use Prim.Native.Nat.{ℕ, _≤_, _<_}
 use native.Mathlib.Omega.{arith}
 use mathlib.Core.List.{List}
@@ -11,23 +11,19 @@ use Rattle.verdicts.specs.declared.Verdict.the-variants.{Good, Mark, Edition, R
 use Rattle.wire.specs.Bytes.{put}
 use Rattle.capture.specs.Records.{Records, otherMark, otherEdition, recordsIn}
 use Rattle.capture.specs.Judged.{captureRules, verdictsOf, refusal, judgedOf, countedOf}
+use Rattle.capture.specs.declared.Counted.{Counted}
 use Rattle.capture.specs.declared.Counted.the-variants.{Whole, Damaged}
 
--- a count is that of the records, and nothing is damaged
-counted-whole : (r : Records) (n : ℕ) → Whole n ≡ countedOf r → (r .broken ≡ false) × (length (r .packets) ≡ n)
-counted-whole r n e =
-    by-cases (r .broken)
-    (λ b. let q = simp b at e in absurd (let z : _≡_ {A = ℕ} 0 1 = cc in omega arith))
-    (λ b. let q = simp b at e in (b, (cc)))
+-- what each count tells
+abbrev Tells : Records → Counted → Type 0
+Tells r (Whole n) = (r .broken ≡ false) × (length (r .packets) ≡ n)
+Tells r Damaged = r .broken ≡ true
 
-counted-damage : (r : Records) → Damaged ≡ countedOf r → r .broken ≡ true
-counted-damage r e =
-    by-cases (r .broken)
-    (λ b. b)
-    (λ b. let q = simp b at e in absurd (let z : _≡_ {A = ℕ} 0 1 = cc in omega arith))
+tells : (r : Records) (k : Counted) → k ≡ countedOf r → Tells r k
+tells r k e = rw e (by-cases (r .broken) (λ b. simp b refl) (λ b. simp b (refl, refl)))
 
 pub fits : (c buffer : List ℕ) (n : ℕ) → Whole n ≡ countedOf (recordsIn c) → n ≤ length buffer → length (recordsIn c .packets) ≤ length buffer
-fits c buffer n w h = omega (arith, counted-whole (recordsIn c) n w .1)
+fits c buffer n w h = omega (arith, tells (recordsIn c) (Whole n) w .1)
 
 module _ (c buffer : List ℕ) where
   pub marked : otherMark c ≡ true → (refusal Mark, buffer) ≡ judgedOf c buffer
@@ -42,17 +38,17 @@ module _ (c buffer : List ℕ) where
     module _ (e : otherEdition c ≡ false) where
       pub damage : Damaged ≡ countedOf (recordsIn c) → (refusal Record, buffer) ≡ judgedOf c buffer
       unfolding judgedOf captureRules
-      damage d = simp (m, e, counted-damage (recordsIn c) d)
+      damage d = simp (m, e, tells (recordsIn c) Damaged d)
 
       module _ (n : ℕ) (w : Whole n ≡ countedOf (recordsIn c)) where
         pub room : length buffer < n → (refusal Room, buffer) ≡ judgedOf c buffer
         unfolding judgedOf captureRules
         room h =
-            let k = counted-whole (recordsIn c) n w in
+            let k = tells (recordsIn c) (Whole n) w in
             simp (m, e, k .0, k .1, lt-ltb (length buffer) n h)
 
         pub good : n ≤ length buffer → (record { verdict = Good; count = n }, put buffer 0 (verdictsOf (recordsIn c .packets))) ≡ judgedOf c buffer
         unfolding judgedOf captureRules
         good h =
-            let k = counted-whole (recordsIn c) n w in
+            let k = tells (recordsIn c) (Whole n) w in
             simp (m, e, k .0, k .1, le-ltb (length buffer) n h)

@@ -2,11 +2,10 @@
 use mathlib.Core.Path.{_≡_, refl, sym, ap, _∙_}
 use Prim.Native.Nat.{ℕ, zero, suc, _+_, _≤_, _<_}
 use native.Mathlib.Omega.{arith}
-use mathlib.Core.List.{List, [], _∷_, map}
+use mathlib.Core.List.{List, [], _∷_}
 use mathlib.Core.Bool.{Bool, true, false}
 use lib.ListN.{length, getD, drop}
 use lib.Seq.{getD-drop}
-use lib.Dec.{ltb}
 use borrow.Author.Tests.{le-ltb, ltb-false}
 use Rattle.verdicts.specs.Numbers.{numberOf}
 use Rattle.verdicts.specs.Rules.{_⇒_, verdictBy}
@@ -15,7 +14,7 @@ use Rattle.verdicts.proofs.Rules.{first-map}
 use Rattle.wire.specs.Bytes.{byteAt, Bytes, put}
 use Rattle.wire.proofs.Writes.{put-wrote}
 use Rattle.judge.specs.Judge.{judgeOf}
-use Rattle.capture.specs.Records.{recordsIn, laid, captureOf, Small}
+use Rattle.capture.specs.Records.{captureHead, recordsIn, captureOf, Small}
 use Rattle.capture.specs.Judged.{captureRules, verdictsOf, judgedOf}
 use Rattle.capture.specs.declared.Judged.{Judged}
 use Rattle.capture.proofs.Heads.{mark-laid, edition-laid, head-laid}
@@ -46,8 +45,8 @@ pub judged-good : (c buffer : List ℕ) → Bytes c → judgedOf c buffer .0 .ve
 unfolding judgedOf captureRules captureOf
 judged-good c buffer b g =
     let a = all-clear _ _ _ _ (sym (first-map (λ (q : Judged × List ℕ). q .0 .verdict) (captureRules c (length buffer)) _ _) ∙ g) in (
-      head-laid c b (a .0) (a .1) ∙ ap (λ xs. 0x47 ∷ 0x4C ∷ 0x52 ∷ 0x00 ∷ 0x01 ∷ xs) (sym (laid-read (drop 5 c) (λ i. rw getD-drop (b (5 + i))) (a .2))),
-      read-small (drop 5 c),
+      head-laid c b (a .0) (a .1) ∙ ap (λ xs. 0x47 ∷ 0x4C ∷ 0x52 ∷ 0x00 ∷ 0x01 ∷ xs) (sym (laid-read (drop captureHead c) (λ i. rw getD-drop (b (captureHead + i))) (a .2))),
+      read-small (drop captureHead c),
       ltb-false (length buffer) (length (recordsIn c .packets)) (a .3),
     )
 

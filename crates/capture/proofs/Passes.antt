@@ -8,7 +8,7 @@ use lib.ListN.{length, take, drop, set, length-map, length-set}
 use Rattle.verdicts.specs.Numbers.{numberOf}
 use Rattle.wire.specs.Bytes.{put}
 use Rattle.judge.specs.Judge.{judgeOf}
-use Rattle.capture.specs.Records.{Records, none, ruin, readOf, recordsIn}
+use Rattle.capture.specs.Records.{captureHead, Records, none, ruin, readOf, recordsIn}
 use Rattle.capture.specs.Judged.{verdictsOf, countedOf}
 use Rattle.capture.specs.declared.Counted.the-variants.{Whole, Damaged}
 use Rattle.capture.proofs.Places.{Passed}
@@ -24,7 +24,7 @@ pub record Counting (c : List ℕ) (at count : ℕ) : Type 0 where
   pub same : readOf (drop at c) .broken ≡ recordsIn c .broken
 
 module _ {c : List ℕ} where
-  pub counting-start : Counting c 5 0
+  pub counting-start : Counting c captureHead 0
   counting-start = record { few = omega arith; rest = omega arith; same = refl }
 
   pub counting-record : {at start end count : ℕ} → Passed c at start end → Counting c at count → Counting c end (count + 1)
@@ -51,7 +51,7 @@ pub record Judging (c buffer verdicts : List ℕ) (at i : ℕ) : Type 0 where
   pub writes : put verdicts i (verdictsOf (readOf (drop at c) .packets)) ≡ put buffer 0 (verdictsOf (recordsIn c .packets))
 
 module _ {c buffer : List ℕ} where
-  pub judging-start : length (recordsIn c .packets) ≤ length buffer → Judging c buffer buffer 5 0
+  pub judging-start : length (recordsIn c .packets) ≤ length buffer → Judging c buffer buffer captureHead 0
   judging-start h = record { long = refl; room = omega arith; writes = refl }
 
   -- a record that is left has a place

@@ -1,127 +1,141 @@
--- Laws of reading: what some bytes begin with, and the records one after the other.
+-- Laws of reading: what a record's head says, what some bytes begin with, and the records one after the other.
 use mathlib.Core.Path.{_≡_, refl, ap, _∙_}
 use Prim.Native.Nat.{ℕ, zero, suc, _+_, _≤_, _<_}
 use native.Mathlib.Omega.{arith}
-use mathlib.Core.List.{List}
-use mathlib.Core.Bool.{true, false}
-use lib.ListN.{length, drop, length-drop}
+use mathlib.Core.List.{List, [], _∷_}
+use lib.ListN.{length, take, length-drop}
 use lib.Dec.{ltb, eqb}
-use borrow.Author.Tests.{lt-ltb, le-ltb, eq-eqb, ne-eqb, ltb-true, ltb-false, eqb-true, eqb-false}
-use Rattle.verdicts.proofs.Tests.{by-cases, or-false}
-use Rattle.wire.specs.Bytes.{wordAt, part}
-use Rattle.capture.specs.Records.{Front, nothing, damage, whole, damaged, frontOf, Records, none, ruin, _before_, going, readBy, readOf}
+use borrow.Author.Tests.{lt-ltb, le-ltb, eq-eqb, ne-eqb, ltb-true, ltb-false, eqb-true}
+use Rattle.verdicts.proofs.Tests.{by-cases}
+use Rattle.wire.specs.Bytes.{wordAt}
+use Rattle.capture.specs.Records.{recordHead, most, headOf, held, frontOf, packet, behind, Records, none, ruin, _before_, going, readBy, readOf}
+use Rattle.capture.specs.declared.Head.{Head}
+use Rattle.capture.specs.declared.Head.the-variants.{End, Damaged, Packet}
+
+-- ---- what a record's head says, from the facts that lead to it
+module _ (xs : List ℕ) where
+  pub head-none : length xs ≡ 0 → headOf xs ≡ End
+  unfolding headOf
+  head-none e = simp (eq-eqb (length xs) 0 e)
+
+  pub head-cut : 0 < length xs → length xs < recordHead → headOf xs ≡ Damaged
+  unfolding headOf
+  head-cut s h = simp (ne-eqb (length xs) 0 (λ e. omega arith), lt-ltb (length xs) recordHead h)
+
+  module _ (there : recordHead ≤ length xs) where
+    pub head-long : most < wordAt xs 0 → headOf xs ≡ Damaged
+    unfolding headOf
+    head-long h = simp (ne-eqb (length xs) 0 (λ e. omega arith), le-ltb (length xs) recordHead there, lt-ltb most (wordAt xs 0) h)
+
+    pub head-packet : (n : ℕ) → n ≡ wordAt xs 0 → n ≤ most → headOf xs ≡ Packet n
+    unfolding headOf
+    head-packet n e h =
+        rw e (simp (ne-eqb (length xs) 0 (λ z. omega arith), le-ltb (length xs) recordHead there, le-ltb most (wordAt xs 0) (omega arith)))
+
+-- a head that is there, and says how long its packet is
+pub record Headed (xs : List ℕ) (n : ℕ) : Type 0 where
+  pub head : headOf xs ≡ Packet n
+  pub size : n ≡ wordAt xs 0
+  pub small : n ≤ most
+  pub there : recordHead ≤ length xs
+
+-- what each answer tells
+abbrev pub Says : List ℕ → Head → Type 0
+Says xs End = length xs ≡ 0
+Says xs Damaged = Unit
+Says xs (Packet n) = Headed xs n
+
+pub head-says : (xs : List ℕ) → Says xs (headOf xs)
+unfolding headOf
+head-says xs =
+    by-cases (eqb (length xs) 0)
+    (λ z. simp z (eqb-true (length xs) 0 z))
+    (λ z.
+    by-cases (ltb (length xs) recordHead)
+    (λ c. simp (z, c) tt)
+    (λ c.
+    let there = ltb-false (length xs) recordHead c in
+    by-cases (ltb most (wordAt xs 0))
+    (λ l. simp (z, c, l) tt)
+    (λ l.
+    let small = ltb-false most (wordAt xs 0) l in
+    simp (z, c, l) (record { head = head-packet xs there _ refl small; size = refl; small = small; there = there }))))
+
+-- the head's own bytes tell as much as all
+pub head-taken : (xs : List ℕ) → headOf (take recordHead xs) ≡ headOf xs
+unfolding headOf
+head-taken [] = refl
+head-taken (x ∷ []) = refl
+head-taken (x ∷ y ∷ xs) = rw (ne-eqb (length (x ∷ y ∷ xs)) 0 (λ e. omega arith), le-ltb (length (x ∷ y ∷ xs)) recordHead (omega arith))
 
 -- ---- what some bytes begin with
-module _ (xs : List ℕ) where
-  pub front-end : length xs ≡ 0 → frontOf xs ≡ nothing
-  unfolding frontOf
-  front-end e = simp (eq-eqb (length xs) 0 e)
+pub front-none : (xs : List ℕ) → length xs ≡ 0 → frontOf xs ≡ End
+front-none xs e = rw (head-none xs e)
 
-  pub front-short : 0 < length xs → length xs < 2 → frontOf xs ≡ damage
-  unfolding frontOf damaged
-  front-short s h = simp (ne-eqb (length xs) 0 (λ e. omega arith), lt-ltb (length xs) 2 h)
+module _ (xs : List ℕ) (n : ℕ) (e : headOf xs ≡ Packet n) where
+  pub front-cut : length xs < recordHead + n → frontOf xs ≡ Damaged
+  front-cut h = simp (e, lt-ltb (length xs) (recordHead + n) h)
 
-  module _ (two : 2 ≤ length xs) where
-    pub front-long : 2048 < wordAt xs 0 → frontOf xs ≡ damage
-    unfolding frontOf damaged
-    front-long h = simp (ne-eqb (length xs) 0 (λ e. omega arith), le-ltb (length xs) 2 two, lt-ltb 2048 (wordAt xs 0) h)
+  pub front-whole : recordHead + n ≤ length xs → frontOf xs ≡ Packet n
+  front-whole h = simp (e, le-ltb (length xs) (recordHead + n) h)
 
-    pub front-cut : wordAt xs 0 ≤ 2048 → length xs < 2 + wordAt xs 0 → frontOf xs ≡ damage
-    unfolding frontOf damaged
-    front-cut s h = simp (ne-eqb (length xs) 0 (λ e. omega arith), le-ltb (length xs) 2 two, le-ltb 2048 (wordAt xs 0) s, lt-ltb (length xs) (2 + wordAt xs 0) h)
+-- what is damaged: the head, or the packet, which is cut
+pub data Damage (xs : List ℕ) : Type 0 where
+  in-head : headOf xs ≡ Damaged → Damage xs
+  in-packet : (n : ℕ) → Headed xs n → length xs < recordHead + n → Damage xs
 
-    pub front-whole : wordAt xs 0 ≤ 2048 → 2 + wordAt xs 0 ≤ length xs → frontOf xs ≡ whole (wordAt xs 0)
-    unfolding frontOf damaged
-    front-whole s h = simp (ne-eqb (length xs) 0 (λ e. omega arith), le-ltb (length xs) 2 two, le-ltb 2048 (wordAt xs 0) s, le-ltb (length xs) (2 + wordAt xs 0) h)
+-- what each beginning tells
+abbrev pub Begins : List ℕ → Head → Type 0
+Begins xs End = length xs ≡ 0
+Begins xs Damaged = Damage xs
+Begins xs (Packet n) = Headed xs n × (recordHead + n ≤ length xs)
 
--- a whole record's size, and that its bytes are there
-pub record Whole (xs : List ℕ) (n : ℕ) : Type 0 where
-  pub size : n ≡ wordAt xs 0
-  pub small : n ≤ 2048
-  pub there : 2 + n ≤ length xs
-
--- which of the three it is
-pub data Begins (xs : List ℕ) : Front → Type 0 where
-  ends : length xs ≡ 0 → Begins xs nothing
-  breaks : 0 < length xs → damaged xs ≡ true → Begins xs damage
-  holds : (n : ℕ) → Whole xs n → Begins xs (whole n)
+begins-by : (xs : List ℕ) (h : Head) → headOf xs ≡ h → Says xs h → Begins xs (held (length xs) h)
+begins-by xs End e z = z
+begins-by xs Damaged e u = in-head e
+begins-by xs (Packet n) e k =
+    by-cases (ltb (length xs) (recordHead + n))
+    (λ c. simp c (in-packet n k (ltb-true (length xs) (recordHead + n) c)))
+    (λ c. simp c (k, ltb-false (length xs) (recordHead + n) c))
 
 pub begins : (xs : List ℕ) → Begins xs (frontOf xs)
-unfolding frontOf damaged
-begins xs =
-    by-cases (eqb (length xs) 0)
-    (λ e. simp e (ends (eqb-true (length xs) 0 e)))
-    (λ e.
-    let n = eqb-false (length xs) 0 e in
-    by-cases (damaged xs)
-    (λ d. simp (e, d) (breaks (omega arith) d))
-    (λ d.
-    let o = or-false (ltb (length xs) 2) _ d in
-    let q = or-false (ltb 2048 (wordAt xs 0)) _ (o .1) in
-    simp (e, d) (holds (wordAt xs 0) (record { size = refl; small = ltb-false 2048 (wordAt xs 0) (q .0); there = ltb-false (length xs) (2 + wordAt xs 0) (q .1) }))))
-
--- what is damaged: a cut length, a length over 2,048, or a cut packet
-pub data Damage (xs : List ℕ) : Type 0 where
-  cut-length : length xs < 2 → Damage xs
-  too-long : 2 ≤ length xs → 2048 < wordAt xs 0 → Damage xs
-  cut-packet : 2 ≤ length xs → wordAt xs 0 ≤ 2048 → length xs < 2 + wordAt xs 0 → Damage xs
-
-pub damage-is : (xs : List ℕ) → damaged xs ≡ true → Damage xs
-unfolding damaged
-damage-is xs d =
-    by-cases (ltb (length xs) 2)
-    (λ a. cut-length (ltb-true (length xs) 2 a))
-    (λ a.
-    let two = ltb-false (length xs) 2 a in
-    by-cases (ltb 2048 (wordAt xs 0))
-    (λ b. too-long two (ltb-true 2048 (wordAt xs 0) b))
-    (λ b. cut-packet two (ltb-false 2048 (wordAt xs 0) b) (ltb-true (length xs) (2 + wordAt xs 0) (simp (a, b) at d))))
+begins xs = begins-by xs (headOf xs) refl (head-says xs)
 
 -- ---- the records one after the other
-same-going : (f : Front) (a b : ℕ → Records) → ((n : ℕ) → f ≡ whole n → a n ≡ b n) → going f a ≡ going f b
-same-going nothing a b e = refl
-same-going damage a b e = refl
-same-going (whole n) a b e = e n refl
+same-going : (f : Head) (a b : ℕ → Records) → ((n : ℕ) → f ≡ Packet n → a n ≡ b n) → going f a ≡ going f b
+same-going End a b e = refl
+same-going Damaged a b e = refl
+same-going (Packet n) a b e = e n refl
 
 -- as many turns as bytes are enough
 enough : (j k : ℕ) (xs : List ℕ) → length xs ≤ j → length xs ≤ k → readBy j xs ≡ readBy k xs
 unfolding readBy
 enough zero zero xs h l = refl
-enough zero (suc k) xs h l = rw (front-end xs (omega arith))
-enough (suc j) zero xs h l = rw (front-end xs (omega arith))
+enough zero (suc k) xs h l = rw (front-none xs (omega arith))
+enough (suc j) zero xs h l = rw (front-none xs (omega arith))
 enough (suc j) (suc k) xs h l =
-    same-going (frontOf xs) _ _ (λ n e. ap (λ r. part xs 2 n before r) (enough j k (drop (2 + n) xs) (rw length-drop (omega arith)) (rw length-drop (omega arith))))
+    same-going (frontOf xs) _ _ (λ n e. ap (λ r. packet xs n before r) (enough j k (behind xs n) (rw length-drop (omega arith)) (rw length-drop (omega arith))))
 
-pub read-step : (xs : List ℕ) → readOf xs ≡ going (frontOf xs) (λ n. part xs 2 n before readOf (drop (2 + n) xs))
+pub read-step : (xs : List ℕ) → readOf xs ≡ going (frontOf xs) (λ n. packet xs n before readOf (behind xs n))
 unfolding readOf readBy
 read-step xs =
     enough (length xs) (suc (length xs)) xs (omega arith) (omega arith)
     ∙ same-going (frontOf xs) _ _
-    (λ n e. ap (λ r. part xs 2 n before r) (enough (length xs) (length (drop (2 + n) xs)) (drop (2 + n) xs) (rw length-drop (omega arith)) (omega arith)))
-
-module _ (xs : List ℕ) where
-  pub read-end : frontOf xs ≡ nothing → readOf xs ≡ none
-  read-end e = read-step xs ∙ rw e
-
-  pub read-damage : frontOf xs ≡ damage → readOf xs ≡ ruin
-  read-damage e = read-step xs ∙ rw e
-
-  pub read-whole : (n : ℕ) → frontOf xs ≡ whole n → readOf xs ≡ part xs 2 n before readOf (drop (2 + n) xs)
-  read-whole n e = read-step xs ∙ rw e
+    (λ n e. ap (λ r. packet xs n before r) (enough (length xs) (length (behind xs n)) (behind xs n) (rw length-drop (omega arith)) (omega arith)))
 
 -- what holds of the end, of damage, and of a record before what it holds of, holds of all that is read
 module _ (P : List ℕ → Records → Type 0)
     (end : (xs : List ℕ) → length xs ≡ 0 → P xs none)
-    (break : (xs : List ℕ) → 0 < length xs → damaged xs ≡ true → P xs ruin)
-    (more : (xs : List ℕ) (n : ℕ) → Whole xs n → P (drop (2 + n) xs) (readOf (drop (2 + n) xs)) → P xs (part xs 2 n before readOf (drop (2 + n) xs))) where
-  turn : (xs : List ℕ) {f : Front} → Begins xs f → frontOf xs ≡ f → ((n : ℕ) → P (drop (2 + n) xs) (readOf (drop (2 + n) xs))) → P xs (readOf xs)
-  turn xs (ends z) e on = rw (read-end xs e) (end xs z)
-  turn xs (breaks s d) e on = rw (read-damage xs e) (break xs s d)
-  turn xs (holds n w) e on = rw (read-whole xs n e) (more xs n w (on n))
+    (break : (xs : List ℕ) → Damage xs → P xs ruin)
+    (more : (xs : List ℕ) (n : ℕ) → Headed xs n → recordHead + n ≤ length xs → P (behind xs n) (readOf (behind xs n)) → P xs (packet xs n before readOf (behind xs n))) where
+  turn : (xs : List ℕ) (f : Head) → Begins xs f → frontOf xs ≡ f → ((n : ℕ) → P (behind xs n) (readOf (behind xs n))) → P xs (readOf xs)
+  turn xs End z e on = rw (read-step xs, e) (end xs z)
+  turn xs Damaged d e on = rw (read-step xs, e) (break xs d)
+  turn xs (Packet n) w e on = rw (read-step xs, e) (more xs n (w .0) (w .1) (on n))
 
   by-length : (k : ℕ) (xs : List ℕ) → length xs ≤ k → P xs (readOf xs)
-  by-length zero xs h = let z : length xs ≡ 0 = omega arith in rw (read-end xs (front-end xs z)) (end xs z)
-  by-length (suc k) xs h = turn xs (begins xs) refl (λ n. by-length k (drop (2 + n) xs) (rw length-drop (omega arith)))
+  by-length zero xs h = let z : length xs ≡ 0 = omega arith in rw (read-step xs, front-none xs z) (end xs z)
+  by-length (suc k) xs h = turn xs (frontOf xs) (begins xs) refl (λ n. by-length k (behind xs n) (rw length-drop (omega arith)))
 
   pub by-reading : (xs : List ℕ) → P xs (readOf xs)
   by-reading xs = by-length (length xs) xs (omega arith)

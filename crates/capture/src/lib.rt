@@ -1,16 +1,16 @@
 // The hut's capture: which bytes of it are its records, and the verdict on each.
 //
-// Any bytes may be handed in. What a record is stands in `record_at` alone; the passes over a capture, and whoever
-// else walks one, go by it.
+// Any bytes may be handed in. What a record's head says stands in `head_at` alone, and what a record is in `record_at`;
+// the passes over a capture, and whoever else walks one, go by them.
 use judge::judge;
 use verdicts::Verdict;
 use verdicts::number;
 use wire::word;
 ghost use mathlib.Core.Path.{_≡_};
 ghost use Prim.Native.Nat.{_≤_};
-ghost use lib.ListN.{length};
+ghost use lib.ListN.{length, drop};
 ghost use Rattle.wire.specs.Bytes.{put};
-ghost use Rattle.capture.specs.Records.{otherMark, otherEdition, recordAt, recordsIn};
+ghost use Rattle.capture.specs.Records.{otherMark, otherEdition, headOf, recordAt, recordsIn};
 ghost use Rattle.capture.specs.Judged.{verdictsOf, refusal, judgedOf, countedOf};
 
 // The mark, "GLR", and the version behind it.
@@ -22,13 +22,20 @@ const MARK_2: u8 = 0x52;
 
 const VERSION: usize = 3;
 
-// The records begin behind the head.
-pub const HEAD: usize = 5;
+// The records begin behind the capture's head.
+pub const CAPTURE_HEAD: usize = 5;
 
-// A record begins with its packet's length, which is at most this.
-pub const LENGTH: usize = 2;
+// A record's head is its packet's length, which is at most this.
+pub const RECORD_HEAD: usize = 2;
 
 pub const MOST: usize = 2048;
+
+// What a record's head says: nothing is there, something is damaged, or a packet of so many bytes follows.
+pub enum Head {
+    End,
+    Damaged,
+    Packet(usize),
+}
 
 // What stands at a place of a capture: a whole record, with the start and end of its packet, or the capture's end, or
 // something damaged.
@@ -101,34 +108,47 @@ pub fn other_mark(capture: &[u8]) -> bool
 pub fn other_edition(capture: &[u8]) -> bool
     ensures { λ r. ⌜ r ≡ otherEdition (now (capture .entry)) ⌝ }
 {
-    if capture.len() < HEAD {
+    if capture.len() < CAPTURE_HEAD {
         return true;
     }
     word(capture, VERSION) != 1
+}
+
+// What the head of the record at a place says. A place past the end is the end.
+pub fn head_at(bytes: &[u8], at: usize) -> Head
+    ensures { λ r. ⌜ r ≡ headOf (drop at (now (bytes .entry))) ⌝ }
+{
+    if bytes.len() <= at {
+        return Head::End;
+    }
+    if bytes.len() - at < RECORD_HEAD {
+        return Head::Damaged;
+    }
+    let size = word(bytes, at) as usize;
+    if MOST < size {
+        return Head::Damaged;
+    }
+    Head::Packet(size)
 }
 
 // What stands at a place of a capture behind its head.
 pub fn record_at(capture: &[u8], at: usize) -> Found
     ensures { λ r. ⌜ r ≡ recordAt (now (capture .entry)) at ⌝ }
 {
-    if capture.len() <= at {
-        return Found::End;
-    }
-    let left = capture.len() - at;
-    if left < LENGTH {
-        return Found::Damaged;
-    }
-    let size = word(capture, at) as usize;
-    if MOST < size {
-        return Found::Damaged;
-    }
-    if left - LENGTH < size {
-        return Found::Damaged;
-    }
-    let start = at + LENGTH;
-    Found::Record {
-        start,
-        end: start + size,
+    let head = head_at(capture, at);
+    match head {
+        Head::End => Found::End,
+        Head::Damaged => Found::Damaged,
+        Head::Packet(size) => {
+            let start = at + RECORD_HEAD;
+            if capture.len() - start < size {
+                return Found::Damaged;
+            }
+            Found::Record {
+                start,
+                end: start + size,
+            }
+        }
     }
 }
 
@@ -136,7 +156,7 @@ pub fn record_at(capture: &[u8], at: usize) -> Found
 fn count_records(capture: &[u8]) -> Counted
     ensures { λ r. ⌜ r ≡ countedOf (recordsIn (now (capture .entry))) ⌝ }
 {
-    let mut at = HEAD;
+    let mut at = CAPTURE_HEAD;
     let mut count: usize = 0;
     loop {
         let found = record_at(capture, at);
@@ -156,7 +176,7 @@ fn judge_each(capture: &[u8], verdicts: &mut [u8])
     requires { ⌜ length (recordsIn (now capture) .packets) ≤ length (now verdicts) ⌝ }
     ensures { λ _. ⌜ now (verdicts .exit) ≡ put (now (verdicts .entry)) 0 (verdictsOf (recordsIn (now (capture .entry)) .packets)) ⌝ }
 {
-    let mut at = HEAD;
+    let mut at = CAPTURE_HEAD;
     let mut i: usize = 0;
     loop {
         let found = record_at(capture, at);

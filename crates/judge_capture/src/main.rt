@@ -19,11 +19,10 @@ enum Step {
 }
 
 fn main() {
-    let mut bytes = [0u8; 2048];
     let mut state = lines::start();
     let mut turns: u64 = 18446744073709551615;
     while 0 < turns {
-        let step = turn(state, &mut bytes);
+        let step = turn(state);
         let Step::On(next) = step else {
             return;
         };
@@ -33,18 +32,19 @@ fn main() {
 }
 
 // Reads what is wanted next, and prints the line that follows from it, if there is one.
-fn turn(state: State, bytes: &mut [u8]) -> Step {
+fn turn(state: State) -> Step {
     let size = lines::want(state);
     if size == 0 {
         return Step::Done;
     }
-    let got = read(size, bytes);
+    let mut bytes = [0u8; lines::PIECE];
+    let got = read(size, &mut bytes);
     if got.failed {
         os::fail(b"judge_capture: cannot read standard input");
         return Step::Done;
     }
     let count = got.count;
-    let mut out = [0u8; 128];
+    let mut out = [0u8; lines::LINE];
     let fed = lines::feed(state, &bytes[..count], &mut out);
     let written = fed.written;
     if !io::write_all(STDOUT_FILENO, &out[..written]) {

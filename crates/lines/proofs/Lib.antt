@@ -1,5 +1,4 @@
 -- Laws of the printed lines.
 pub mod Texts
-pub mod Decisions
 pub mod Runs
 pub mod Outputs

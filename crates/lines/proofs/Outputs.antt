@@ -1,6 +1,6 @@
 -- A whole run prints exactly the bytes of the lines that the layout defines.
 use mathlib.Core.Path.{_≡_, refl, sym, ap, ap₂, _∙_}
-use Prim.Native.Nat.{ℕ, zero, suc, _/_, _%_, _^_, _≤_, _<_}
+use Prim.Native.Nat.{ℕ, zero, suc, _+_, _/_, _%_, _^_, _≤_, _<_}
 use native.Mathlib.Omega.{arith}
 use native.Mathlib.Nat.{pow-suc}
 use mathlib.Core.List.{List, [], _∷_, _++_}
@@ -16,12 +16,15 @@ use Rattle.verdicts.specs.declared.Verdict.{Verdict}
 use Rattle.verdicts.specs.declared.Verdict.the-variants as verdict
 use Rattle.verdicts.proofs.Tests.{by-cases}
 use Rattle.verdicts.proofs.Rules.{first-either}
-use Rattle.wire.specs.Bytes.{wordAt, put}
+use Rattle.wire.specs.Bytes.{put}
 use Rattle.judge.specs.Judge.{judgeOf}
+use Rattle.capture.specs.Records.{headOf}
 use Rattle.capture.specs.Judged.{headRules}
-use Rattle.lines.specs.Text.{placesBy, places, decimalOf}
-use Rattle.lines.specs.Lines.{verdictOn, judgedText, totalsText, stoppedText, textOf, printed, isGood, isUnsummed, isRefused, linesOf}
-use Rattle.lines.specs.Feed.{startOf, wantOf, more, stopping, judging, ending, going, afterHead, afterLength, afterPacket, decidedIn, decidedOf, fedOf}
+use Rattle.capture.specs.declared.Head.{Head}
+use Rattle.capture.specs.declared.Head.the-variants.{End, Damaged, Packet}
+use Rattle.lines.specs.Text.{lineSize, ascii, placesBy, places, decimalOf}
+use Rattle.lines.specs.Lines.{verdictOn, pairText, totalsText, textOf, printed, isGood, isUnsummed, isRefused, linesOf}
+use Rattle.lines.specs.Feed.{startOf, wantOf, largest, more, stopping, judging, ending, going, byHead, decidedIn, decidedOf, fedOf}
 use Rattle.lines.specs.Run.{outputBy, _onto_, runBy}
 use Rattle.lines.specs.declared.Phase.{Phase}
 use Rattle.lines.specs.declared.Phase.the-variants as phase
@@ -34,7 +37,7 @@ use Rattle.lines.proofs.Runs.{run-lines}
 
 -- ---- a number of 64 bits takes at most 20 bytes
 abbrev Narrow : ℕ → Type 0
-Narrow n = n < 18446744073709551616
+Narrow n = n ≤ largest
 
 digits-length : (k n : ℕ) → length (digits 10 k n) ≡ k
 digits-length zero n = refl
@@ -53,6 +56,10 @@ decimal-length : (n : ℕ) → Narrow n → length (decimalOf n) ≤ 20
 unfolding decimalOf
 decimal-length n h = omega (arith, digits-length (places n) n, places-most n n 19 (omega arith))
 
+pair-length : (first : List ℕ) (a : ℕ) (second : List ℕ) (b : ℕ) → Narrow a → Narrow b → length (pairText first a second b) ≤ length first + length second + 41
+unfolding pairText
+pair-length first a second b h l = simp length-append (omega (arith, decimal-length a h, decimal-length b l))
+
 -- ---- what is decided of counts of 64 bits fits the buffer, and the counts stay so
 record Counts (t : Tally) : Type 0 where
   records : Narrow (t .records)
@@ -61,7 +68,7 @@ record Counts (t : Tally) : Type 0 where
   refused : Narrow (t .refused)
 
 record Fit (d : Decided) : Type 0 where
-  text : length (textOf (d .line)) ≤ 128
+  text : length (textOf (d .line)) ≤ lineSize
   counts : Counts (d .state .tally)
 
 number-narrow : (v : Verdict) → Narrow (numberOf v)
@@ -86,8 +93,8 @@ number-narrow verdict.Room = omega arith
 more-narrow : (n : ℕ) → Narrow n → Narrow (more n)
 unfolding more
 more-narrow n h =
-    by-cases (ltb n 18446744073709551615)
-    (λ b. let l = ltb-true n 18446744073709551615 b in rw b (omega arith))
+    by-cases (ltb n largest)
+    (λ b. let l = ltb-true n largest b in rw b (omega arith))
     (λ b. rw b h)
 
 either-narrow : (b : Bool) (n : ℕ) → Narrow n → Narrow (if b then more n else n)
@@ -104,9 +111,8 @@ module _ (t : Tally) (k : Counts t) where
   fit-going p = record { text = omega arith; counts = k }
 
   fit-stopping : (v : Verdict) → Fit (stopping t v)
-  unfolding textOf stoppedText
-  fit-stopping v =
-      record { text = simp length-append (omega (arith, decimal-length (numberOf v) (number-narrow v), decimal-length (t .records) (k .records))); counts = k }
+  unfolding textOf
+  fit-stopping v = record { text = omega (arith, pair-length (ascii "stopped ") (numberOf v) (ascii " after ") (t .records) (number-narrow v) (k .records)); counts = k }
 
   fit-ending : Fit (ending t)
   unfolding textOf totalsText
@@ -125,12 +131,12 @@ module _ (t : Tally) (k : Counts t) where
       }
 
   fit-judging : (p : List ℕ) → Fit (judging t p)
-  unfolding textOf judgedText
+  unfolding textOf
   fit-judging p =
       let v = verdictOn p in
       let n = more-narrow (t .records) (k .records) in
       record {
-        text = simp length-append (omega (arith, decimal-length v (number-narrow (judgeOf p)), decimal-length (more (t .records)) n));
+        text = omega (arith, pair-length (ascii "record ") (more (t .records)) (ascii " verdict ") v n (number-narrow (judgeOf p)));
         counts = record {
           records = n;
           good = either-narrow (isGood v) (t .good) (k .good);
@@ -139,14 +145,14 @@ module _ (t : Tally) (k : Counts t) where
         };
       }
 
+  fit-head : (h : Head) → Fit (byHead t h)
+  fit-head End = fit-ending
+  fit-head Damaged = fit-stopping verdict.Record
+  fit-head (Packet n) = fit-if (eqb n 0) (fit-judging []) (fit-going (phase.Packet n))
+
   fit : (p : Phase) (bytes : List ℕ) → Fit (decidedIn p t bytes)
-  unfolding afterHead afterLength afterPacket
-  fit phase.Head bytes = first-either Fit (headRules bytes) (stopping t) (going phase.Length t) fit-stopping (λ c. fit-going phase.Length)
-  fit phase.Length bytes =
-      fit-if (eqb (length bytes) 0) fit-ending
-      (fit-if (ltb (length bytes) 2) (fit-stopping verdict.Record)
-      (fit-if (ltb 2048 (wordAt bytes 0)) (fit-stopping verdict.Record)
-      (fit-if (eqb (wordAt bytes 0) 0) (fit-judging []) (fit-going (phase.Packet (wordAt bytes 0))))))
+  fit phase.CaptureHead bytes = first-either Fit (headRules bytes) (stopping t) (going phase.RecordHead t) fit-stopping (λ c. fit-going phase.RecordHead)
+  fit phase.RecordHead bytes = fit-head (headOf bytes)
   fit (phase.Packet size) bytes = fit-if (ltb (length bytes) size) (fit-stopping verdict.Record) (fit-judging (take size bytes))
   fit phase.Stopped bytes = fit-going phase.Stopped
 
@@ -167,7 +173,7 @@ printed-onto (Judged n v) ls = refl
 printed-onto (Totals t) ls = refl
 printed-onto (Stopped v n) ls = refl
 
-outputs : (turns : ℕ) (s : State) (input buffer : List ℕ) → Counts (s .tally) → 128 ≤ length buffer → outputBy turns s input buffer ≡ printed (runBy turns s input)
+outputs : (turns : ℕ) (s : State) (input buffer : List ℕ) → Counts (s .tally) → lineSize ≤ length buffer → outputBy turns s input buffer ≡ printed (runBy turns s input)
 unfolding outputBy runBy fedOf printed
 outputs zero s input buffer k h = refl
 outputs (suc turns) s input buffer k h =
@@ -183,6 +189,6 @@ outputs (suc turns) s input buffer k h =
     ∙ sym (printed-onto (d .line) (runBy turns (d .state) (drop n input)))))
 
 -- A run over an input prints the bytes of the lines that the layout defines, and nothing else.
-pub run-prints : (file buffer : List ℕ) (turns : ℕ) → 128 ≤ length buffer → length file < turns → length file < 18446744073709551616
+pub run-prints : (file buffer : List ℕ) (turns : ℕ) → lineSize ≤ length buffer → length file < turns → length file ≤ largest
     → outputBy turns startOf file buffer ≡ printed (linesOf file)
 run-prints file buffer turns b h w = outputs turns startOf file buffer (omega arith) b ∙ ap printed (run-lines file turns h w)

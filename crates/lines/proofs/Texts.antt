@@ -1,6 +1,6 @@
 -- Laws of what is put into a buffer, and of numbers in decimal.
 use mathlib.Core.Path.{_≡_, refl, sym, ap, ap₂, _∙_}
-use Prim.Native.Nat.{ℕ, zero, suc, _+_, _-_, _/_, _^_, _≤_, _<_}
+use Prim.Native.Nat.{ℕ, zero, suc, _+_, _-_, _/_, _^_, _≤_}
 use native.Mathlib.Omega.{arith}
 use native.Mathlib.Nat.{zero-add, add-zero, pow-suc, pow-le-pow-right}
 use mathlib.Core.List.{List, [], _∷_, _++_}
@@ -12,6 +12,7 @@ use Rattle.io.specs.Digits.{digits, Fewest}
 use Rattle.verdicts.proofs.Tests.{by-cases}
 use Rattle.wire.specs.Bytes.{put}
 use Rattle.lines.specs.Text.{placesBy, decimalOf, Page, _then_}
+use Rattle.lines.specs.Feed.{largest}
 
 -- ---- bytes after bytes
 sets-append : (l : List ℕ) (i : ℕ) (xs ys : List ℕ) → sets l i (xs ++ ys) ≡ sets (sets l i xs) (i + length xs) ys
@@ -70,7 +71,7 @@ unfolding decimalOf
 decimal-is n k f = ap (λ p. digits 10 p n) (sym (fewest-is n n k (omega arith) f))
 
 -- a number of 64 bits takes at most 20 digits
-pub few-digits : (n k : ℕ) → n < 18446744073709551616 → Fewest 10 1 n k → k ≤ 20
+pub few-digits : (n k : ℕ) → n ≤ largest → Fewest 10 1 n k → k ≤ 20
 few-digits n k h f =
     by-cases (ltb 20 k)
     (λ b.

@@ -8,8 +8,11 @@ use Rattle.verdicts.specs.Numbers.{numberOf}
 use Rattle.verdicts.specs.Rules.{first}
 use Rattle.verdicts.specs.declared.Verdict.{Verdict}
 use Rattle.verdicts.specs.declared.Verdict.the-variants.{Record}
-use Rattle.wire.specs.Bytes.{wordAt, put}
+use Rattle.wire.specs.Bytes.{put}
+use Rattle.capture.specs.Records.{captureHead, recordHead, headOf}
 use Rattle.capture.specs.Judged.{headRules}
+use Rattle.capture.specs.declared.Head.{Head}
+use Rattle.capture.specs.declared.Head.the-variants.{End, Damaged, Packet}
 use Rattle.lines.specs.Lines.{textOf, verdictOn, isGood, isUnsummed, isRefused}
 use Rattle.lines.specs.declared.Phase.{Phase}
 use Rattle.lines.specs.declared.Phase.the-variants as phase
@@ -23,21 +26,24 @@ abbrev pub zeros : Tally
 zeros = record { records = 0; good = 0; unsummed = 0; refused = 0 }
 
 abbrev pub startOf : State
-startOf = record { phase = phase.Head; tally = zeros }
+startOf = record { phase = phase.CaptureHead; tally = zeros }
 
--- how many bytes are wanted next: the head, a length, a packet, or nothing more
+-- how many bytes are wanted next: a head, a packet, or nothing more
 abbrev pub wantIn : Phase → ℕ
-wantIn phase.Head = 5
-wantIn phase.Length = 2
+wantIn phase.CaptureHead = captureHead
+wantIn phase.RecordHead = recordHead
 wantIn (phase.Packet size) = size
 wantIn phase.Stopped = 0
 
 abbrev pub wantOf : State → ℕ
 wantOf s = wantIn (s .phase)
 
--- a count stays at the largest number of 64 bits
+-- the largest number of 64 bits, at which a count stays
+abbrev pub largest : ℕ
+largest = 18446744073709551615
+
 unfoldable pub more : ℕ → ℕ
-more n = if ltb n 18446744073709551615 then n + 1 else n
+more n = if ltb n largest then n + 1 else n
 
 -- one record more, with this verdict
 abbrev pub tallied : Tally → ℕ → Tally
@@ -57,31 +63,32 @@ stopping t v = record { state = record { phase = phase.Stopped; tally = t }; lin
 abbrev pub judging : Tally → List ℕ → Decided
 judging t packet =
     let u = tallied t (verdictOn packet) in
-    record { state = record { phase = phase.Length; tally = u }; line = Judged (u .records) (verdictOn packet) }
+    record { state = record { phase = phase.RecordHead; tally = u }; line = Judged (u .records) (verdictOn packet) }
 
 abbrev pub ending : Tally → Decided
 ending t = record { state = record { phase = phase.Stopped; tally = t }; line = Totals t }
 
--- the head was read
-unfoldable pub afterHead : Tally → List ℕ → Decided
-afterHead t bytes = first (headRules bytes) (stopping t) (going phase.Length t)
+-- the capture's head was read
+abbrev pub afterCaptureHead : Tally → List ℕ → Decided
+afterCaptureHead t bytes = first (headRules bytes) (stopping t) (going phase.RecordHead t)
 
--- a length was read: of nothing, at the input's end, the totals follow, and a packet of no bytes is judged at once
-unfoldable pub afterLength : Tally → List ℕ → Decided
-afterLength t bytes =
-    if eqb (length bytes) 0 then ending t
-    else if ltb (length bytes) 2 then stopping t Record
-    else if ltb 2048 (wordAt bytes 0) then stopping t Record
-    else if eqb (wordAt bytes 0) 0 then judging t []
-    else going (phase.Packet (wordAt bytes 0)) t
+-- by what a record's head says: at the input's end the totals follow, and a packet of no bytes is judged at once
+abbrev pub byHead : Tally → Head → Decided
+byHead t End = ending t
+byHead t Damaged = stopping t Record
+byHead t (Packet n) = if eqb n 0 then judging t [] else going (phase.Packet n) t
+
+-- a record's head was read
+abbrev pub afterRecordHead : Tally → List ℕ → Decided
+afterRecordHead t bytes = byHead t (headOf bytes)
 
 -- a packet was read
-unfoldable pub afterPacket : Tally → ℕ → List ℕ → Decided
+abbrev pub afterPacket : Tally → ℕ → List ℕ → Decided
 afterPacket t size bytes = if ltb (length bytes) size then stopping t Record else judging t (take size bytes)
 
 abbrev pub decidedIn : Phase → Tally → List ℕ → Decided
-decidedIn phase.Head t bytes = afterHead t bytes
-decidedIn phase.Length t bytes = afterLength t bytes
+decidedIn phase.CaptureHead t bytes = afterCaptureHead t bytes
+decidedIn phase.RecordHead t bytes = afterRecordHead t bytes
 decidedIn (phase.Packet size) t bytes = afterPacket t size bytes
 decidedIn phase.Stopped t bytes = going phase.Stopped t
 

@@ -17,22 +17,20 @@ use Rattle.lines.specs.declared.Line.{Line}
 use Rattle.lines.specs.declared.Line.the-variants.{Nothing, Judged, Totals, Stopped}
 
 -- ---- a line's bytes
-unfoldable pub judgedText : ℕ → ℕ → List ℕ
-judgedText number verdict = ascii "record " ++ (decimalOf number ++ (ascii " verdict " ++ (decimalOf verdict ++ ascii "\n")))
+-- two texts with a number behind each
+unfoldable pub pairText : List ℕ → ℕ → List ℕ → ℕ → List ℕ
+pairText first a second b = first ++ (decimalOf a ++ (second ++ (decimalOf b ++ ascii "\n")))
 
 unfoldable pub totalsText : Tally → List ℕ
 totalsText t =
     ascii "records " ++ (decimalOf (t .records) ++ (ascii " good " ++ (decimalOf (t .good)
     ++ (ascii " unsummed " ++ (decimalOf (t .unsummed) ++ (ascii " refused " ++ (decimalOf (t .refused) ++ ascii "\n")))))))
 
-unfoldable pub stoppedText : ℕ → ℕ → List ℕ
-stoppedText verdict after = ascii "stopped " ++ (decimalOf verdict ++ (ascii " after " ++ (decimalOf after ++ ascii "\n")))
-
 unfoldable pub textOf : Line → List ℕ
 textOf Nothing = []
-textOf (Judged number verdict) = judgedText number verdict
+textOf (Judged number verdict) = pairText (ascii "record ") number (ascii " verdict ") verdict
 textOf (Totals t) = totalsText t
-textOf (Stopped verdict after) = stoppedText verdict after
+textOf (Stopped verdict after) = pairText (ascii "stopped ") verdict (ascii " after ") after
 
 unfoldable pub printed : List Line → List ℕ
 printed [] = []

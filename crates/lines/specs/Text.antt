@@ -9,6 +9,10 @@ use Rattle.io.specs.Digits.{digits}
 use Rattle.verdicts.specs.Choice.{if_then_else_}
 use Rattle.wire.specs.Bytes.{put}
 
+-- no line has more bytes
+abbrev pub lineSize : ℕ
+lineSize = 128
+
 -- the bytes of a text in ASCII
 abbrev pub ascii : String → List ℕ
 ascii nil = []

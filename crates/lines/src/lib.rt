@@ -5,9 +5,10 @@
 // the program is done.
 mod text;
 
-use capture::HEAD;
-use capture::LENGTH;
-use capture::MOST;
+use capture::CAPTURE_HEAD;
+use capture::Head;
+use capture::RECORD_HEAD;
+use capture::head_at;
 use capture::other_edition;
 use capture::other_mark;
 use judge::judge;
@@ -15,19 +16,27 @@ use text::put_count;
 use text::put_text;
 use verdicts::Verdict;
 use verdicts::number;
-use wire::word;
 ghost use mathlib.Core.Path.{_≡_};
-ghost use Prim.Native.Nat.{_≤_};
+ghost use Prim.Native.Nat.{_+_, _≤_};
 ghost use lib.ListN.{length};
 ghost use Rattle.io.specs.Counts.{Counts};
-ghost use Rattle.lines.specs.Text.{_then_};
-ghost use Rattle.lines.specs.Lines.{textOf, judgedText, totalsText, stoppedText};
-ghost use Rattle.lines.specs.Feed.{startOf, wantOf, more as Feed·more, tallied, stopping, judging, afterHead, afterLength, afterPacket, decidedOf, fedOf};
+ghost use Rattle.lines.specs.Text.{lineSize, _then_};
+ghost use Rattle.lines.specs.Lines.{textOf, pairText, totalsText};
+ghost use Rattle.lines.specs.Feed.{startOf, wantOf, more as Feed·more, tallied, stopping, judging, afterCaptureHead, afterRecordHead, afterPacket, decidedOf, fedOf};
 
-// What is read next: the capture's head, a record's length, its packet of so many bytes, or nothing more.
+// No more bytes are wanted at once: the longest packet.
+pub const PIECE: usize = capture::MOST;
+
+// No line is longer than this.
+pub const LINE: usize = 128;
+
+// The largest number of 64 bits.
+const LARGEST: u64 = 18446744073709551615;
+
+// What is read next: the capture's head, a record's head, its packet of so many bytes, or nothing more.
 pub enum Phase {
-    Head,
-    Length,
+    CaptureHead,
+    RecordHead,
     Packet(usize),
     Stopped,
 }
@@ -68,7 +77,7 @@ pub fn start() -> State
     ensures { λ r. ⌜ r ≡ startOf ⌝ }
 {
     State {
-        phase: Phase::Head,
+        phase: Phase::CaptureHead,
         tally: Tally {
             records: 0,
             good: 0,
@@ -84,8 +93,8 @@ pub fn want(s: State) -> usize
 {
     let phase = s.phase;
     match phase {
-        Phase::Head => HEAD,
-        Phase::Length => LENGTH,
+        Phase::CaptureHead => CAPTURE_HEAD,
+        Phase::RecordHead => RECORD_HEAD,
         Phase::Packet(size) => size,
         Phase::Stopped => 0,
     }
@@ -93,7 +102,7 @@ pub fn want(s: State) -> usize
 
 // Takes the bytes that were read, and puts the line to print, if there is one, at the start of `out`. The bytes of `out`
 // behind it stay.
-pub fn feed(s: State, bytes: &[u8], out: &mut [u8; 128]) -> Fed
+pub fn feed(s: State, bytes: &[u8], out: &mut [u8; LINE]) -> Fed
     ensures { λ r. ⌜ (r, now (out .exit)) ≡ fedOf s (now (bytes .entry)) (now (out .entry)) ⌝ }
     ensures { λ r. ⌜ Counts (r .written) (now (out .exit)) ⌝ }
 {
@@ -111,8 +120,8 @@ fn decide(s: State, bytes: &[u8]) -> Decided
     let phase = s.phase;
     let tally = s.tally;
     match phase {
-        Phase::Head => after_head(tally, bytes),
-        Phase::Length => after_length(tally, bytes),
+        Phase::CaptureHead => after_capture_head(tally, bytes),
+        Phase::RecordHead => after_record_head(tally, bytes),
         Phase::Packet(size) => after_packet(tally, size, bytes),
         Phase::Stopped => Decided {
             state: s,
@@ -121,8 +130,8 @@ fn decide(s: State, bytes: &[u8]) -> Decided
     }
 }
 
-fn after_head(tally: Tally, bytes: &[u8]) -> Decided
-    ensures { λ r. ⌜ r ≡ afterHead tally (now (bytes .entry)) ⌝ }
+fn after_capture_head(tally: Tally, bytes: &[u8]) -> Decided
+    ensures { λ r. ⌜ r ≡ afterCaptureHead tally (now (bytes .entry)) ⌝ }
 {
     if other_mark(bytes) {
         return stop(tally, Verdict::Mark);
@@ -132,41 +141,38 @@ fn after_head(tally: Tally, bytes: &[u8]) -> Decided
     }
     Decided {
         state: State {
-            phase: Phase::Length,
+            phase: Phase::RecordHead,
             tally,
         },
         line: Line::Nothing,
     }
 }
 
-fn after_length(tally: Tally, bytes: &[u8]) -> Decided
-    ensures { λ r. ⌜ r ≡ afterLength tally (now (bytes .entry)) ⌝ }
+fn after_record_head(tally: Tally, bytes: &[u8]) -> Decided
+    ensures { λ r. ⌜ r ≡ afterRecordHead tally (now (bytes .entry)) ⌝ }
 {
-    if bytes.len() == 0 {
-        return Decided {
+    let head = head_at(bytes, 0);
+    match head {
+        Head::End => Decided {
             state: State {
                 phase: Phase::Stopped,
                 tally,
             },
             line: Line::Totals(tally),
-        };
-    }
-    if bytes.len() < LENGTH {
-        return stop(tally, Verdict::Record);
-    }
-    let size = word(bytes, 0) as usize;
-    if MOST < size {
-        return stop(tally, Verdict::Record);
-    }
-    if size == 0 {
-        return judged(tally, &bytes[..0]);
-    }
-    Decided {
-        state: State {
-            phase: Phase::Packet(size),
-            tally,
         },
-        line: Line::Nothing,
+        Head::Damaged => stop(tally, Verdict::Record),
+        Head::Packet(size) => {
+            if size == 0 {
+                return judged(tally, &bytes[..0]);
+            }
+            Decided {
+                state: State {
+                    phase: Phase::Packet(size),
+                    tally,
+                },
+                line: Line::Nothing,
+            }
+        }
     }
 }
 
@@ -203,7 +209,7 @@ fn judged(tally: Tally, packet: &[u8]) -> Decided
     let tally = counted(tally, verdict);
     Decided {
         state: State {
-            phase: Phase::Length,
+            phase: Phase::RecordHead,
             tally,
         },
         line: Line::Judged {
@@ -244,51 +250,46 @@ fn counted(t: Tally, verdict: u8) -> Tally
 fn more(n: u64) -> u64
     ensures { λ r. ⌜ r ≡ Feed·more n ⌝ }
 {
-    if n < 18446744073709551615 { n + 1 } else { n }
+    if n < LARGEST { n + 1 } else { n }
 }
 
 // Puts a line's bytes at the start of a buffer, and answers how many there are.
 fn spell(line: Line, out: &mut [u8]) -> usize
-    requires { ⌜ 128 ≤ length (now out) ⌝ }
+    requires { ⌜ lineSize ≤ length (now out) ⌝ }
     ensures { λ r. ⌜ (r, now (out .exit)) ≡ (0, now (out .entry)) then textOf line ⌝ }
-    ensures { λ r. ⌜ r ≤ 128 ⌝ }
+    ensures { λ r. ⌜ r ≤ lineSize ⌝ }
 {
     match line {
         Line::Nothing => 0,
-        Line::Judged { number, verdict } => spell_judged(number, verdict, out),
+        Line::Judged { number, verdict } => {
+            spell_pair(out, b"record ", number, b" verdict ", verdict as u64)
+        }
         Line::Totals(tally) => spell_totals(tally, out),
-        Line::Stopped { verdict, after } => spell_stopped(verdict, after, out),
+        Line::Stopped { verdict, after } => {
+            spell_pair(out, b"stopped ", verdict as u64, b" after ", after)
+        }
     }
 }
 
-fn spell_judged(number: u64, verdict: u8, out: &mut [u8]) -> usize
-    requires { ⌜ 128 ≤ length (now out) ⌝ }
-    ensures { λ r. ⌜ (r, now (out .exit)) ≡ (0, now (out .entry)) then judgedText number verdict ⌝ }
-    ensures { λ r. ⌜ r ≤ 128 ⌝ }
+// Two texts with a number behind each. A number takes at most 20 bytes, and the line's end one.
+fn spell_pair(out: &mut [u8], first: &[u8], a: u64, second: &[u8], b: u64) -> usize
+    requires { ⌜ length (now first) + length (now second) + 41 ≤ length (now out) ⌝ }
+    ensures { λ r. ⌜ (r, now (out .exit)) ≡ (0, now (out .entry)) then pairText (now (first .entry)) a (now (second .entry)) b ⌝ }
+    ensures { λ r. ⌜ r ≤ length (now (first .entry)) + length (now (second .entry)) + 41 ⌝ }
 {
-    let at = put_count(out, 0, b"record ", number);
-    let at = put_count(out, at, b" verdict ", verdict as u64);
+    let at = put_count(out, 0, first, a);
+    let at = put_count(out, at, second, b);
     put_text(out, at, b"\n")
 }
 
 fn spell_totals(t: Tally, out: &mut [u8]) -> usize
-    requires { ⌜ 128 ≤ length (now out) ⌝ }
+    requires { ⌜ lineSize ≤ length (now out) ⌝ }
     ensures { λ r. ⌜ (r, now (out .exit)) ≡ (0, now (out .entry)) then totalsText t ⌝ }
-    ensures { λ r. ⌜ r ≤ 128 ⌝ }
+    ensures { λ r. ⌜ r ≤ lineSize ⌝ }
 {
     let at = put_count(out, 0, b"records ", t.records);
     let at = put_count(out, at, b" good ", t.good);
     let at = put_count(out, at, b" unsummed ", t.unsummed);
     let at = put_count(out, at, b" refused ", t.refused);
-    put_text(out, at, b"\n")
-}
-
-fn spell_stopped(verdict: u8, after: u64, out: &mut [u8]) -> usize
-    requires { ⌜ 128 ≤ length (now out) ⌝ }
-    ensures { λ r. ⌜ (r, now (out .exit)) ≡ (0, now (out .entry)) then stoppedText verdict after ⌝ }
-    ensures { λ r. ⌜ r ≤ 128 ⌝ }
-{
-    let at = put_count(out, 0, b"stopped ", verdict as u64);
-    let at = put_count(out, at, b" after ", after);
     put_text(out, at, b"\n")
 }

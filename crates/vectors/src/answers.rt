@@ -1,10 +1,12 @@
 // The answer to each operation.
 use crate::cases::Case;
+use crate::cases::LARGEST;
+use crate::cases::WIDTH;
 use crate::cases::quad;
-use crate::page::append;
-use crate::page::put;
-use crate::page::room;
-use crate::page::within;
+use crate::cases::within;
+use crate::operation;
+use crate::print::print;
+use crate::print::put;
 use capture::judge_capture;
 use lines::State;
 use sums::Field;
@@ -12,57 +14,51 @@ use sums::Fold;
 use sums::Partial;
 use verdicts::Verdict;
 use verdicts::number;
+ghost use mathlib.Core.Path.{_≡_};
 ghost use Prim.Native.Nat.{_<_, _≤_};
+ghost use lib.ListN.{length};
 ghost use Rattle.io.specs.Counts.{Counts};
 
+// What each place of a verdict buffer holds before the call.
 const FILL: u8 = 0xA5;
 
-// Calls the operation on the buffer, and puts its answer into the page.
-pub fn answer(
-    case: Case,
-    buffer: &mut [u8],
-    second: &[u8],
-    spare: &mut [u8],
-    pieces: &mut [u32],
-    page: &mut [u8],
-    at: usize,
-) -> usize {
-    let a = case.number;
-    let operation = case.operation;
+// Calls the operation on so many bytes of the buffer, and prints its answer.
+pub fn answer(case: Case, size: usize, buffer: &mut [u8], second: &[u8]) {
+    let n = within(buffer, size);
+    let m = within(second, case.two);
+    answer_on(case.operation, case.number, &mut buffer[..n], &second[..m]);
+}
+
+fn answer_on(operation: u8, a: u64, buffer: &mut [u8], second: &[u8]) {
     match operation {
-        1..=4 => edited(operation, a, buffer, second, page, at),
-        5 => captured(buffer, a as usize, spare, page, at),
-        6 => chained(buffer, second, pieces, page, at),
-        12 => printed(buffer, page, at),
-        _ => computed(operation, a, buffer, page, at),
+        operation::MEND..=operation::STRETCH => edited(operation, a, buffer, second),
+        operation::CAPTURE => captured(buffer, a as usize),
+        operation::CHAIN => chained(buffer, second),
+        operation::UPDATE => updated(a),
+        operation::JOIN => joined(a),
+        operation::PRINTED => printed(buffer),
+        _ => computed(operation, a, buffer),
     }
 }
 
 // The operations that write into the buffer: the verdict, and the digest of what they left.
-fn edited(
-    operation: u8,
-    a: u64,
-    buffer: &mut [u8],
-    second: &[u8],
-    page: &mut [u8],
-    at: usize,
-) -> usize {
+fn edited(operation: u8, a: u64, buffer: &mut [u8], second: &[u8]) {
     let verdict = edit_with(operation, a, buffer, second);
-    let at = put(page, at, wide(number(verdict)), b' ');
-    put(page, at, digest(buffer), b'\n')
+    put_verdict(verdict, b" ");
+    put(digest(buffer), b"\n");
 }
 
 fn edit_with(operation: u8, a: u64, buffer: &mut [u8], second: &[u8]) -> Verdict {
     match operation {
-        1 => mend::mend(buffer),
-        2 => edit::lower_lifetime(buffer),
-        3 => edit::set_address(buffer, (a % 4294967296) as u32, second),
+        operation::MEND => mend::mend(buffer),
+        operation::LIFETIME => edit::lower_lifetime(buffer),
+        operation::ADDRESS => edit::set_address(buffer, (a % 4294967296) as u32, second),
         _ => edit::set_stretch(buffer, a as usize, second),
     }
 }
 
-fn wide(v: u8) -> u64 {
-    v as u64
+fn put_verdict(verdict: Verdict, end: &[u8]) {
+    put(number(verdict) as u64, end);
 }
 
 fn digest(bytes: &[u8]) -> u64 {
@@ -83,87 +79,86 @@ fn step(h: u64, b: u8) -> u64
 }
 
 // A capture's verdicts, into so many places.
-fn captured(buffer: &[u8], places: usize, spare: &mut [u8], page: &mut [u8], at: usize) -> usize {
-    let n = within(spare, places);
-    judged(buffer, &mut spare[..n], page, at)
+fn captured(buffer: &[u8], count: usize) {
+    let mut verdicts = places();
+    let n = within(&verdicts, count);
+    judged(buffer, &mut verdicts[..n]);
 }
 
-fn judged(buffer: &[u8], verdicts: &mut [u8], page: &mut [u8], at: usize) -> usize {
-    fill(verdicts);
+// A verdict buffer as it is before the call.
+fn places() -> [u8; LARGEST]
+    ensures { λ r. ⌜ 131072 ≡ length r ⌝ }
+{
+    [FILL; LARGEST]
+}
+
+fn judged(buffer: &[u8], verdicts: &mut [u8]) {
     let judged = judge_capture(buffer, verdicts);
     let verdict = judged.verdict;
-    let at = put(page, at, wide(number(verdict)), b' ');
-    let at = put(page, at, judged.count as u64, b' ');
-    put(page, at, digest(verdicts), b'\n')
-}
-
-fn fill(bytes: &mut [u8]) {
-    let mut i: usize = 0;
-    while i < bytes.len() {
-        bytes[i] = FILL;
-        i += 1;
-    }
+    put_verdict(verdict, b" ");
+    put(judged.count as u64, b" ");
+    put(digest(verdicts), b"\n");
 }
 
 // A chain over the list of 32-bit numbers in payload two.
-fn chained(buffer: &[u8], second: &[u8], pieces: &mut [u32], page: &mut [u8], at: usize) -> usize {
-    let n = numbers(second, pieces);
-    let chained = sums::chain(buffer, &pieces[..n]);
+fn chained(buffer: &[u8], second: &[u8]) {
+    let mut list = [0u32; LARGEST / WIDTH];
+    let n = numbers(second, &mut list);
+    let chained = sums::chain(buffer, &list[..n]);
     let verdict = chained.verdict;
     let sum = chained.sum;
-    let at = put(page, at, wide(number(verdict)), b' ');
-    partial(sum, page, at)
+    put_verdict(verdict, b" ");
+    put_partial(sum);
 }
 
 // Turns bytes into 32-bit numbers at a list's start, and answers how many there are.
 fn numbers(bytes: &[u8], list: &mut [u32]) -> usize
     ensures { λ r. ⌜ Counts r (now (list .exit)) ⌝ }
 {
-    let n = least(bytes.len() / 4, list.len());
+    let n = least(bytes.len() / WIDTH, list.len());
     let mut i: usize = 0;
     while i < n {
-        list[i] = quad(bytes, i * 4) as u32;
+        list[i] = quad(bytes, i * WIDTH) as u32;
         i += 1;
     }
     n
 }
 
-fn partial(s: Partial, page: &mut [u8], at: usize) -> usize {
-    let at = put(page, at, s.fold.0 as u64, b' ');
+fn put_partial(s: Partial) {
+    put(s.fold.0 as u64, b" ");
     let odd = if s.odd { 1 } else { 0 };
-    put(page, at, odd, b'\n')
+    put(odd, b"\n");
 }
 
-// The operations that only read.
-fn computed(operation: u8, a: u64, buffer: &[u8], page: &mut [u8], at: usize) -> usize {
+// The operations that only read the buffer.
+fn computed(operation: u8, a: u64, buffer: &[u8]) {
     match operation {
-        0 => put(page, at, wide(number(judge::judge(buffer))), b'\n'),
-        7 => partial(sums::sum(buffer), page, at),
-        8 => put(page, at, sums::fold_at(buffer, a % 2 == 1).0 as u64, b'\n'),
-        9 => {
-            let s = sums::sum(buffer);
-            put(page, at, sums::field_of(s.fold).0 as u64, b'\n')
-        }
-        10 => {
-            let field = sums::update(
-                Field(bits(a, 4294967296)),
-                Fold(bits(a, 65536)),
-                Fold(bits(a, 1)),
-            );
-            put(page, at, field.0 as u64, b'\n')
-        }
-        _ => {
-            let first = Partial {
-                fold: Fold(bits(a, 4294967296)),
-                odd: a / 131072 % 2 == 1,
-            };
-            let then = Partial {
-                fold: Fold(bits(a, 1)),
-                odd: a / 65536 % 2 == 1,
-            };
-            partial(sums::join(first, then), page, at)
-        }
+        operation::JUDGE => put_verdict(judge::judge(buffer), b"\n"),
+        operation::PARTIAL => put_partial(sums::sum(buffer)),
+        operation::FOLD_AT => put(sums::fold_at(buffer, a % 2 == 1).0 as u64, b"\n"),
+        _ => put(sums::field_of(sums::sum(buffer).fold).0 as u64, b"\n"),
     }
+}
+
+fn updated(a: u64) {
+    let field = sums::update(
+        Field(bits(a, 4294967296)),
+        Fold(bits(a, 65536)),
+        Fold(bits(a, 1)),
+    );
+    put(field.0 as u64, b"\n");
+}
+
+fn joined(a: u64) {
+    let first = Partial {
+        fold: Fold(bits(a, 4294967296)),
+        odd: a / 131072 % 2 == 1,
+    };
+    let then = Partial {
+        fold: Fold(bits(a, 1)),
+        odd: a / 65536 % 2 == 1,
+    };
+    put_partial(sums::join(first, then));
 }
 
 // The 16 bits that begin at a power of two.
@@ -173,45 +168,34 @@ fn bits(a: u64, power: u64) -> u16
     (a / power % 65536) as u16
 }
 
-// The next state of a run, and where the page's next line goes.
-struct Shown {
-    state: State,
-    at: usize,
-}
-
 // The lines of the program `judge_capture` for an input, decided as it does. There are no more turns than bytes and one.
-fn printed(input: &[u8], page: &mut [u8], at: usize) -> usize {
+fn printed(input: &[u8]) {
     let mut state = lines::start();
     let mut place: usize = 0;
-    let mut at = at;
     let mut turns = input.len();
     loop {
         let size = lines::want(state);
         if size == 0 {
-            return at;
+            return;
         }
         let end = place + least(size, input.len() - place);
-        let shown = show(state, &input[place..end], page, at);
-        state = shown.state;
-        at = shown.at;
+        state = show(state, &input[place..end]);
         place = end;
         if turns == 0 {
-            return at;
+            return;
         }
         turns -= 1;
     }
 }
 
-fn show(state: State, bytes: &[u8], page: &mut [u8], at: usize) -> Shown {
-    let mut out = [0u8; 128];
+// Prints the line that follows from some bytes, if there is one, and answers the next state.
+fn show(state: State, bytes: &[u8]) -> State {
+    let mut out = [0u8; lines::LINE];
     let fed = lines::feed(state, bytes, &mut out);
     let written = fed.written;
+    print(&out[..written]);
     let next = fed.state;
-    let at = room(page, at);
-    Shown {
-        state: next,
-        at: append(page, at, &out[..written]),
-    }
+    next
 }
 
 fn least(a: usize, b: usize) -> usize

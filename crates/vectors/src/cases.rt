@@ -1,19 +1,33 @@
 // Cases, as they are read.
-use crate::page::within;
+use crate::operation;
 use libc::STDIN_FILENO;
 use wire::put_bytes;
 ghost use mathlib.Core.Path.{_≡_};
 ghost use Prim.Native.Nat.{_+_, _≤_};
 ghost use lib.ListN.{length};
+ghost use Rattle.io.specs.Counts.{Counts};
 
 // The largest payload, and the most places of a verdict buffer.
-const LARGEST: u64 = 131072;
+pub const LARGEST: usize = 131072;
 
-const LAST_OPERATION: u8 = 12;
+// A case's head, and where its numbers stand.
+const HEAD: usize = 18;
 
-const CAPTURE: u8 = 5;
+const NUMBER: usize = 2;
 
-const LAST_SOURCE: u8 = 2;
+const ONE: usize = 10;
+
+const TWO: usize = 14;
+
+// The size of a 32-bit number.
+pub const WIDTH: usize = 4;
+
+// The buffer is payload one, or what the case before left, or the last one given.
+const GIVEN: u8 = 0;
+
+const LEFT: u8 = 1;
+
+const AGAIN: u8 = 2;
 
 pub struct Case {
     pub operation: u8,
@@ -23,7 +37,7 @@ pub struct Case {
     pub two: usize,
 }
 
-enum Head {
+pub enum Next {
     Case(Case),
     End,
     Bad,
@@ -35,84 +49,51 @@ pub struct Sizes {
     pub given: usize,
 }
 
-enum Laid {
-    Out(Sizes),
-    Bad,
-}
-
-pub enum Next {
-    Case(Case, Sizes),
-    End,
-    Bad,
-}
-
-// Reads the next case. Its buffer is at the start of the first buffer, and payload two at that of the third.
-pub fn read(
-    sizes: Sizes,
-    buffer: &mut [u8],
-    given: &mut [u8],
-    second: &mut [u8],
-    spare: &mut [u8],
-) -> Next {
-    let head = case_head();
-    match head {
-        Head::Case(case) => {
-            let laid = lay(case, sizes, buffer, given, spare);
-            let Laid::Out(sizes) = laid else {
-                return Next::Bad;
-            };
-            if payload(second, case.two) {
-                Next::Case(case, sizes)
-            } else {
-                Next::Bad
-            }
-        }
-        Head::End => Next::End,
-        Head::Bad => Next::Bad,
-    }
-}
-
-fn case_head() -> Head {
-    let mut bytes = [0u8; 18];
+// Reads the next case's head.
+pub fn next_case() -> Next {
+    let mut bytes = [0u8; HEAD];
     let got = io::read_full(STDIN_FILENO, &mut bytes);
     if got == 0 {
-        return Head::End;
+        return Next::End;
     }
-    if got < 18 {
-        return Head::Bad;
+    if got < HEAD {
+        return Next::Bad;
     }
-    let operation = bytes[0];
-    let source = bytes[1];
-    let number = quad(&bytes, 2) * 4294967296 + quad(&bytes, 6);
-    let one = quad(&bytes, 10);
-    let two = quad(&bytes, 14);
-    if malformed(operation, source, number, one, two) {
-        return Head::Bad;
+    let case = case_of(&bytes);
+    if malformed(case) {
+        return Next::Bad;
     }
-    Head::Case(Case {
-        operation,
-        source,
-        number,
-        one: one as usize,
-        two: two as usize,
-    })
+    Next::Case(case)
 }
 
-fn malformed(operation: u8, source: u8, number: u64, one: u64, two: u64) -> bool {
-    if LAST_OPERATION < operation {
+fn case_of(bytes: &[u8; HEAD]) -> Case {
+    Case {
+        operation: bytes[0],
+        source: bytes[1],
+        number: quad(bytes, NUMBER) * 4294967296 + quad(bytes, NUMBER + WIDTH),
+        one: quad(bytes, ONE) as usize,
+        two: quad(bytes, TWO) as usize,
+    }
+}
+
+fn malformed(case: Case) -> bool {
+    if operation::PRINTED < case.operation {
         return true;
     }
-    if LAST_SOURCE < source {
+    if AGAIN < case.source {
         return true;
     }
-    if LARGEST < one {
+    if LARGEST < case.one {
         return true;
     }
-    if LARGEST < two {
+    if LARGEST < case.two {
         return true;
     }
-    if operation == CAPTURE {
-        return LARGEST < number;
+    if case.operation == operation::CAPTURE {
+        return LARGEST < case.number as usize;
+    }
+    if case.operation == operation::CHAIN {
+        return case.two % WIDTH != 0;
     }
     false
 }
@@ -133,8 +114,18 @@ pub fn quad(bytes: &[u8], at: usize) -> u64
     high * 65536 + low
 }
 
+// Reads payload one, which is ignored unless it is a buffer, and payload two.
+pub fn payloads(case: Case, given: &mut [u8], second: &mut [u8]) -> bool {
+    let one = case.one;
+    let two = case.two;
+    if case.source == GIVEN {
+        return payload(one, given) && payload(two, second);
+    }
+    payload(one, second) && payload(two, second)
+}
+
 // Reads a payload to a buffer's start.
-fn payload(buffer: &mut [u8], size: usize) -> bool {
+fn payload(size: usize, buffer: &mut [u8]) -> bool {
     if size == 0 {
         return true;
     }
@@ -142,45 +133,29 @@ fn payload(buffer: &mut [u8], size: usize) -> bool {
     io::read_full(STDIN_FILENO, &mut buffer[..n]) == size
 }
 
-// Makes the case's buffer the present one. Payload one is read whatever the source.
-fn lay(case: Case, sizes: Sizes, buffer: &mut [u8], given: &mut [u8], spare: &mut [u8]) -> Laid {
-    let one = case.one;
-    let given_size = sizes.given;
-    let source = case.source;
-    match source {
-        0 => {
-            if !payload(buffer, one) {
-                return Laid::Bad;
-            }
-            copy(buffer, one, given);
-            Laid::Out(Sizes {
-                buffer: one,
-                given: one,
-            })
-        }
-        1 => {
-            if !payload(spare, one) {
-                return Laid::Bad;
-            }
-            Laid::Out(sizes)
-        }
-        _ => {
-            if !payload(spare, one) {
-                return Laid::Bad;
-            }
-            copy(given, given_size, buffer);
-            Laid::Out(Sizes {
-                buffer: given_size,
-                given: given_size,
-            })
-        }
+// Makes the case's buffer the present one.
+pub fn lay(case: Case, sizes: Sizes, buffer: &mut [u8], given: &[u8]) -> Sizes {
+    if case.source == LEFT {
+        return sizes;
+    }
+    let size = if case.source == GIVEN {
+        case.one
+    } else {
+        sizes.given
+    };
+    let n = within(given, size);
+    if n <= buffer.len() {
+        put_bytes(buffer, 0, &given[..n]);
+    }
+    Sizes {
+        buffer: size,
+        given: size,
     }
 }
 
-// Copies the first bytes of one buffer to another's start.
-fn copy(from: &[u8], size: usize, to: &mut [u8]) {
-    let n = within(from, size);
-    if n <= to.len() {
-        put_bytes(to, 0, &from[..n]);
-    }
+// A number of bytes at a buffer's start: n, or all of them where there are fewer.
+pub fn within(bytes: &[u8], n: usize) -> usize
+    ensures { λ r. ⌜ Counts r (now (bytes .entry)) ⌝ }
+{
+    if n < bytes.len() { n } else { bytes.len() }
 }

@@ -5,89 +5,65 @@
 // this program it is proved that nothing in it goes wrong.
 mod answers;
 mod cases;
-mod page;
+mod operation;
+mod print;
 
 use answers::answer;
+use cases::LARGEST;
 use cases::Next;
 use cases::Sizes;
-use cases::read;
-use page::append;
-use page::room;
-use page::within;
-use page::write;
+use cases::lay;
+use cases::next_case;
+use cases::payloads;
+use print::print;
 
 enum Step {
-    On(Sizes, usize),
-    Done(usize),
+    On(Sizes),
+    Done,
 }
 
 fn main() {
-    let mut buffer = [0u8; 131072];
-    let mut given = [0u8; 131072];
-    let mut second = [0u8; 131072];
-    let mut spare = [0u8; 131072];
-    let mut pieces = [0u32; 32768];
-    let mut page = [0u8; 65536];
+    let mut buffer = [0u8; LARGEST];
+    let mut given = [0u8; LARGEST];
+    let mut second = [0u8; LARGEST];
     let mut sizes = Sizes {
         buffer: 0,
         given: 0,
     };
-    let mut at: usize = 0;
     let mut turns: u64 = 18446744073709551615;
     while 0 < turns {
-        at = room(&mut page, at);
-        let step = turn(
-            sizes,
-            &mut buffer,
-            &mut given,
-            &mut second,
-            &mut spare,
-            &mut pieces,
-            &mut page,
-            at,
-        );
-        match step {
-            Step::On(s, n) => {
-                sizes = s;
-                at = n;
-            }
-            Step::Done(n) => {
-                write(&page, n);
-                return;
-            }
-        }
+        let step = turn(sizes, &mut buffer, &mut given, &mut second);
+        let Step::On(next) = step else {
+            return;
+        };
+        sizes = next;
         turns -= 1;
     }
 }
 
-// One case: it is read, and its answer is put into the page. A malformed case ends the answers.
+// One case: it is read, and its answer is printed. A malformed case ends the answers.
 fn turn(
     sizes: Sizes,
-    buffer: &mut [u8],
-    given: &mut [u8],
-    second: &mut [u8],
-    spare: &mut [u8],
-    pieces: &mut [u32],
-    page: &mut [u8],
-    at: usize,
+    buffer: &mut [u8; LARGEST],
+    given: &mut [u8; LARGEST],
+    second: &mut [u8; LARGEST],
 ) -> Step {
-    let next = read(sizes, buffer, given, second, spare);
+    let next = next_case();
     match next {
-        Next::Case(case, sizes) => {
-            let size = within(buffer, sizes.buffer);
-            let two = within(second, case.two);
-            let at = answer(
-                case,
-                &mut buffer[..size],
-                &second[..two],
-                spare,
-                pieces,
-                page,
-                at,
-            );
-            Step::On(sizes, at)
+        Next::Case(case) => {
+            if payloads(case, given, second) {
+                let sizes = lay(case, sizes, buffer, given);
+                answer(case, sizes.buffer, buffer, second);
+                return Step::On(sizes);
+            }
+            bad()
         }
-        Next::End => Step::Done(at),
-        Next::Bad => Step::Done(append(page, at, b"bad case\n")),
+        Next::End => Step::Done,
+        Next::Bad => bad(),
     }
+}
+
+fn bad() -> Step {
+    print(b"bad case\n");
+    Step::Done
 }

@@ -38,6 +38,8 @@ pub const AGAIN: u8 = 2;
 
 pub const LARGEST: usize = 131_072;
 pub const HEAD: usize = 18;
+/// The size of a number in a chain's list.
+pub const NUMBER: usize = 4;
 pub const FILL: u8 = 0xA5;
 pub const BAD_CASE: &str = "bad case\n";
 
@@ -79,7 +81,8 @@ impl Case {
         let (size_one, size_two) = (whole(&head[10..14]) as usize, whole(&head[14..18]) as usize);
         let unknown = operation > PRINTED || source > AGAIN;
         let too_large = size_one > LARGEST || size_two > LARGEST || (operation == CAPTURE && number > LARGEST as u64);
-        if unknown || too_large {
+        let uneven = operation == CHAIN && size_two % NUMBER != 0;
+        if unknown || too_large || uneven {
             return Ok(Next::Bad);
         }
         let (one, two) = (take(input, size_one)?, take(input, size_two)?);
@@ -164,7 +167,7 @@ impl Desk {
     }
 
     fn chain(&self, list: &[u8]) -> String {
-        let list: Vec<u32> = list.chunks(4).map(|number| whole(number) as u32).collect();
+        let list: Vec<u32> = list.chunks(NUMBER).map(|number| whole(number) as u32).collect();
         match sums::chain(&self.buffer, &list) {
             Ok(sum) => format!("{GOOD} {}", summed(sum)),
             Err(refusal) => format!("{refusal} 0 0\n"),

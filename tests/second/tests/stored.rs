@@ -55,4 +55,10 @@ fn sources_and_malformed_cases() {
     let mut large = case(0, 0, &[]);
     large[10..14].copy_from_slice(&131_073_u32.to_be_bytes());
     assert_eq!(answers(&large), (String::new(), false));
+    let chain = |two: &[u8]| Case { operation: 6, source: 0, number: 0, one: vec![0xAB], two: two.to_vec() }.to_bytes();
+    assert_eq!(answers(&chain(&[0; 8])), ("0 0 0\n".to_string(), true));
+    assert_eq!(answers(&chain(&[0; 4])), ("10 0 0\n".to_string(), true));
+    for size in [1, 2, 3, 5, 6, 7, 9] {
+        assert_eq!(answers(&chain(&vec![0; size])), (String::new(), false));
+    }
 }

@@ -3,7 +3,7 @@ use mathlib.Core.Path.{sym, _∙_}
 use Prim.Native.Nat.{_-_}
 use native.Mathlib.Omega.{arith}
 use lib.ListN.{length}
-use Rattle.capture.proofs.Places.{Passed, past-here, is-record, is-last, is-damage}
+use Rattle.capture.proofs.Places.{Passed, past-here}
 use Rattle.capture.proofs.Passes.{Counting, counting-start, counting-record, counting-end, counting-damage}
 use borrow.Author.Needs.{needs}
 use Rattle.capture.proofs.count_records.Statement.{statement}
@@ -17,17 +17,17 @@ abbrev μ-loop : tie.MeasureT-loop
 
 passed : (c : tie.After-known-told Inv-loop μ-loop)
     → Passed (c .before .before .before .before .before .before .args .capture .now) (c .before .before .before .before .loop .at) (c .before .found .given .0 .0) (c .before .found .given .0 .1 .0)
-passed c = is-record (past-here _ _ _ (sym (c .before .found .given .1) ∙ c .before .before .before .record-at .ensures))
+passed c = past-here _ _ _ (sym (c .before .found .given .1) ∙ c .before .before .before .record-at .ensures)
 
 returns : tie.Need-returns Inv-loop μ-loop
 returns c =
     let b = c .before .before in
-    counting-end (is-last (past-here _ _ _ (sym (c .enum-told .given .1) ∙ b .record-at .ensures))) (b .before .loop .inv)
+    counting-end (past-here _ _ _ (sym (c .enum-told .given .1) ∙ b .record-at .ensures)) (b .before .loop .inv)
 
 returns-2 : tie.Need-returns-2 Inv-loop μ-loop
 returns-2 c =
     let b = c .before .before in
-    counting-damage (is-damage (past-here _ _ _ (sym (c .enum-told2 .given .1) ∙ b .record-at .ensures))) (b .before .loop .inv)
+    counting-damage (past-here _ _ _ (sym (c .enum-told2 .given .1) ∙ b .record-at .ensures)) (b .before .loop .inv)
 
 pub count-records-spec : {M : Type 1} → statement M
 count-records-spec =

@@ -7,7 +7,7 @@ use denote.Enum.Declared.{tagOf}
 use lib.ListN.{length}
 use Rattle.verdicts.specs.Numbers.{numberOf}
 use Rattle.capture.proofs.Found.{the-type}
-use Rattle.capture.proofs.Places.{Passed, past-here, is-record, none-left}
+use Rattle.capture.proofs.Places.{Passed, past-here, none-left}
 use Rattle.capture.proofs.Passes.{Judging, judging-start, judging-place, judging-record, judging-end}
 use borrow.Author.Needs.{needs}
 use Rattle.capture.proofs.judge_each.Statement.{statement}
@@ -21,12 +21,12 @@ abbrev μ-loop : tie.MeasureT-loop
 
 passed : (c : tie.After-known-told Inv-loop μ-loop)
     → Passed (c .before .before .before .before .before .before .before .args .capture .now) (c .before .before .before .before .loop .at) (c .before .found .given .0 .0) (c .before .found .given .0 .1 .0)
-passed c = is-record (past-here _ _ _ (sym (c .before .found .given .1) ∙ c .before .before .before .record-at .ensures))
+passed c = past-here _ _ _ (sym (c .before .found .given .1) ∙ c .before .before .before .record-at .ensures)
 
 returns : tie.Need-returns Inv-loop μ-loop
 returns c =
     let b = c .before in
-    judging-end (none-left (past-here _ _ _ (b .record-at .ensures)) (λ s e q. ⊎-elim (λ k. omega (arith, ap (tagOf the-type) q)) (λ k. omega (arith, ap (tagOf the-type) q)) (c .match .keys2))) (b .before .loop .inv)
+    judging-end (none-left _ _ (b .record-at .result) (past-here _ _ _ (b .record-at .ensures)) (λ s e q. ⊎-elim (λ k. omega (arith, ap (tagOf the-type) q)) (λ k. omega (arith, ap (tagOf the-type) q)) (c .match .keys2))) (b .before .loop .inv)
 
 add-i : tie.Need-add-i Inv-loop μ-loop
 add-i c = let k = c .before .before .before in let h = judging-place (passed k) (k .before .before .before .before .loop .inv) in omega arith

@@ -1,4 +1,5 @@
 -- In each arm the line is known.
+use native.Mathlib.Omega.{arith}
 use Rattle.lines.specs.Text.{_then_}
 use Rattle.lines.specs.Lines.{textOf}
 use Rattle.wire.specs.Bytes.{put}
@@ -12,15 +13,15 @@ returns c = (rw (c .enum-told .given .1), search needs)
 
 returns-2 : tie.Need-returns-2
 unfolding textOf
-returns-2 c = (rw (c .before .before .before .before .before .line .given .1) (c .before .before .spell-judged .ensures .0), c .before .before .spell-judged .ensures .1)
+returns-2 c = let p = c .before .before in (rw (p .before .before .before .before .before .line .given .1) (p .spell-pair .ensures .0), omega arith)
 
 returns-3 : tie.Need-returns-3
 unfolding textOf
-returns-3 c = (rw (c .before .before .before .before .before .line2 .given .1) (c .before .before .spell-totals .ensures .0), c .before .before .spell-totals .ensures .1)
+returns-3 c = let p = c .before .before in (rw (p .before .before .before .line2 .given .1) (p .spell-totals .ensures .0), p .spell-totals .ensures .1)
 
 returns-4 : tie.Need-returns-4
 unfolding textOf
-returns-4 c = (rw (c .before .before .before .before .before .line3 .given .1) (c .before .before .spell-stopped .ensures .0), c .before .before .spell-stopped .ensures .1)
+returns-4 c = let p = c .before .before in (rw (p .before .before .before .before .before .line3 .given .1) (p .spell-pair2 .ensures .0), omega arith)
 
 pub spell-spec : {M : Type 1} → statement M
 spell-spec =
@@ -28,9 +29,15 @@ spell-spec =
     (tie.spec
     (λ c. search needs)
     (λ c. search needs)
+    (λ c. search needs)
+    (λ c. search needs)
+    (λ c. search needs)
     (λ c κs. search needs)
     (λ c. search needs)
     (λ c κs. search needs)
+    (λ c. search needs)
+    (λ c. search needs)
+    (λ c. search needs)
     (λ c. search needs)
     (λ c κs. search needs)
     returns

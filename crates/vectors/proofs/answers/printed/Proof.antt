@@ -1,5 +1,4 @@
--- The place stays within the input, and the page keeps its length.
-use mathlib.Core.Path.{_≡_, refl}
+-- The place stays within the input.
 use Prim.Native.Nat.{_≤_}
 use native.Mathlib.Omega.{arith}
 use lib.ListN.{length}
@@ -8,10 +7,10 @@ use Rattle.vectors.proofs.answers.printed.Statement.{statement}
 use Rattle.vectors.proofs.answers.printed.Tie as tie
 
 abbrev Inv-loop : tie.InvT-loop
-Inv-loop input page₀ at state₀ place₀ at₀ turns₀ page state place at' turns = (place ≤ length input) × (length page ≡ length page₀)
+Inv-loop input state₀ place₀ turns₀ state place turns = place ≤ length input
 
 abbrev μ-loop : tie.MeasureT-loop
-μ-loop input page₀ at state₀ place₀ at₀ turns₀ page state place at' turns = turns
+μ-loop input state₀ place₀ turns₀ state place turns = turns
 
 pub printed-spec : {M : Type 1} → statement M
 printed-spec =
@@ -20,19 +19,17 @@ printed-spec =
     Inv-loop
     μ-loop
     (λ c κs. search needs)
-    (λ c. (omega arith, refl))
-    (λ c κs. search needs)
-    (λ c. omega arith)
-    (λ c. search needs)
     (λ c. omega arith)
     (λ c κs. search needs)
-    (λ c. omega arith)
-    (λ c. omega arith)
-    (λ c. omega arith)
+    (λ c. tt)
     (λ c. omega arith)
     (λ c κs. search needs)
     (λ c. omega arith)
-    (λ c. search needs)
+    (λ c. omega arith)
+    (λ c. omega arith)
+    (λ c. omega arith)
+    (λ c κs. search needs)
+    (λ c. tt)
     (λ c. omega arith)
     (λ c. omega arith)
     (λ c. omega arith))

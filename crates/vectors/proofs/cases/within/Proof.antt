@@ -1,8 +1,8 @@
 -- Either way the number is at most the length.
 use native.Mathlib.Omega.{arith}
 use Rattle.io.proofs.Counting.{counts}
-use Rattle.vectors.proofs.page.within.Statement.{statement}
-use Rattle.vectors.proofs.page.within.Tie as tie
+use Rattle.vectors.proofs.cases.within.Statement.{statement}
+use Rattle.vectors.proofs.cases.within.Tie as tie
 
 pub within-spec : {M : Type 1} → statement M
 within-spec =
