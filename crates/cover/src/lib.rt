@@ -20,17 +20,11 @@ pub fn pseudo_sum(packet: &[u8], m: Message) -> Fold
     let family = m.family;
     match family {
         Family::Four => sums::add(
-            sums::fold_at(
-                &packet[wire::ADDRESSES_4..wire::ADDRESSES_4_END],
-                false,
-            ),
+            sums::fold_at(&packet[wire::ADDRESSES_4..wire::ADDRESSES_4_END], false),
             rest,
         ),
         Family::Six => sums::add(
-            sums::fold_at(
-                &packet[wire::ADDRESSES_6..wire::ADDRESSES_6_END],
-                false,
-            ),
+            sums::fold_at(&packet[wire::ADDRESSES_6..wire::ADDRESSES_6_END], false),
             rest,
         ),
     }

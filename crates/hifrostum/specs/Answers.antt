@@ -4,7 +4,7 @@ use mathlib.Core.List.{List}
 use mathlib.Core.Bool.{Bool, true, false}
 use Rattle.verdicts.specs.Numbers.{numberOf}
 use Rattle.verdicts.specs.declared.Verdict.{Verdict}
-use Rattle.sums.specs.declared.Chained.{Chained}
+use Rattle.chain.specs.declared.Chained.{Chained}
 use Rattle.capture.specs.declared.Judged.{Judged}
 
 -- of a call that writes a packet: the number, and the packet afterwards

@@ -6,7 +6,7 @@ ghost use mathlib.Core.Path.{_≡_};
 ghost use Rattle.verdicts.specs.Numbers.{numberOf};
 ghost use Rattle.sums.specs.Total.{total};
 ghost use Rattle.sums.specs.Fold.{fold as Fold·fold, fieldOf};
-ghost use Rattle.sums.specs.Chain.{chainOf};
+ghost use Rattle.chain.specs.Chain.{chainOf};
 ghost use Rattle.sums.specs.Update.{updated};
 ghost use Rattle.judge.specs.Judge.{judgeOf};
 ghost use Rattle.mend.specs.Mend.{mendOf};
@@ -80,7 +80,7 @@ pub extern "C" fn hifrostum_sum_chain(
 ) -> u8
     ensures { λ r. ⌜ (r, (now (fold .exit), now (odd .exit))) ≡ summed (chainOf (now (buffer .entry)) (now (pieces .entry))) ⌝ }
 {
-    let chained = sums::chain(buffer, pieces);
+    let chained = chain::chain(buffer, pieces);
     let v = chained.verdict;
     *fold = chained.sum.fold.0;
     *odd = bit(chained.sum.odd);

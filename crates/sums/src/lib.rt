@@ -3,10 +3,6 @@
 // A Fold is what 16-bit addition with end-around carry gives of some bytes, and a Field is its complement, which
 // packets carry: two types, so that neither is stored where the other belongs. Every public function takes any
 // input, and its promise is one equation.
-mod pieces;
-
-pub use pieces::chain;
-use verdicts::Verdict;
 ghost use mathlib.Core.Path.{_≡_};
 ghost use Prim.Native.Nat.{_+_, _≤_, _<_};
 ghost use lib.ListN.{length};
@@ -25,12 +21,6 @@ pub struct Field(pub u16);
 pub struct Partial {
     pub fold: Fold,
     pub odd: bool,
-}
-
-// The verdict on a chain, good or place, and its partial sum: (0, even) beside a refusal.
-pub struct Chained {
-    pub verdict: Verdict,
-    pub sum: Partial,
 }
 
 // The fold of a total.

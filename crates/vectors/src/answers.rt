@@ -104,7 +104,7 @@ fn judged(buffer: &[u8], verdicts: &mut [u8]) {
 fn chained(buffer: &[u8], second: &[u8]) {
     let mut list = [0u32; LARGEST / WIDTH];
     let n = numbers(second, &mut list);
-    let chained = sums::chain(buffer, &list[..n]);
+    let chained = chain::chain(buffer, &list[..n]);
     let verdict = chained.verdict;
     let sum = chained.sum;
     put_verdict(verdict, b" ");

@@ -1,0 +1,2 @@
+-- Chains: the rules paper's last paragraph of "Sums".
+pub mod Chain
