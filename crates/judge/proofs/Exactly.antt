@@ -154,16 +154,19 @@ module _ (p : List ℕ) where
           → Tells (silentOf p && b) ((versionOf p ≡ v) × (protocolOf p ≡ 17) × (wordAt p (startOf p + 6) ≡ 0))
       zero-tells b v t = as-tells (and-tells (silentOf p) b silent-tells t) (λ z. (z .1, z .0 .0, z .0 .1)) (λ z. ((z .1, z .2), z .0))
 
-      other-tells6 : Tells (not (four p)) (versionOf p ≡ 6)
-      other-tells6 = as-tells (not-tells (four p) four-tells) (λ n. by-cases (four p) (λ f. absurd (n (eqb-true (versionOf p) 4 f))) (λ f. outer-facts p o .six f .1)) (λ e n. omega arith)
+      over6-tells : Tells (not (four p)) (versionOf p ≡ 6)
+      over6-tells =
+          as-tells (not-tells (four p) four-tells)
+          (λ n. by-cases (four p) (λ f. absurd (n (eqb-true (versionOf p) 4 f))) (λ f. outer-facts p o .six f .1))
+          (λ e n. omega arith)
 
       pub missing-told : Told (missingRule p) (missingCase p)
-      missing-told = ((zero-tells (not (four p)) 6 other-tells6, refl), λ e. tt)
+      missing-told = ((zero-tells (not (four p)) 6 over6-tells, refl), λ e. tt)
 
       sum-told : Told (sumRules p) (missingCase p ++ (unsummedCase p ++ messageSumCase p))
       unfolding sumRules messageSums messageTotal
       sum-told =
-          next (zero-tells (not (four p)) 6 other-tells6, refl) λ a.
+          next (zero-tells (not (four p)) 6 over6-tells, refl) λ a.
           next (zero-tells (four p) 4 four-tells, refl) λ b.
           next (not-tells (messageSums p) (passes-tells (messageTotal p)), refl) λ c.
           tt
