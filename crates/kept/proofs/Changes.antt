@@ -23,7 +23,7 @@ use Rattle.cover.proofs.Tally.{tally, weigh-tally}
 use Rattle.cover.proofs.Totals.{addressTally, restTally, message-tally}
 use Rattle.cover.proofs.Blocks.{header-out, message-out, message-address, message-in, message-some}
 use Rattle.mend.proofs.Fresh.{sameF, header-carry, message-carry, header-self, message-self}
-use Rattle.mend.proofs.Accepted.{Accepted}
+use Rattle.judge.proofs.Kept.{Accepted}
 use Rattle.kept.specs.Update.{messageAfter}
 use Rattle.kept.specs.Edits.{Addressed, addressLeft, allZero, blank, stretchRules, stretchLeft}
 use Rattle.kept.proofs.Steps.{Kept, header-step, message-step}

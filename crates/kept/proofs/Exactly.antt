@@ -25,7 +25,7 @@ use Rattle.judge.specs.Judge.{missingRule}
 use Rattle.judge.specs.Cases.{wholeCases, missingCase}
 use Rattle.judge.proofs.Accepts.{shaped}
 use Rattle.judge.proofs.Exactly.{whole-told, missing-told}
-use Rattle.mend.proofs.Accepted.{whole-facts}
+use Rattle.judge.proofs.Kept.{whole-facts}
 use Rattle.kept.specs.Edits.{editRules, lifetimeRules, addressRules, allZero, blank, stretchRules}
 use Rattle.kept.specs.Runs.{Edit, lifetime, address, stretch, apply, rulesOf}
 use Rattle.kept.specs.Cases.{editCases, lifetimeCases, addressCases, Zeros, stretchCases, casesOf}

@@ -19,7 +19,7 @@ use Rattle.judge.specs.Judge.{judgeOf}
 use Rattle.mend.specs.Fresh.{HeaderFresh, MessageFresh}
 use Rattle.mend.specs.Mend.{mendOf, Outside}
 use Rattle.verdicts.proofs.Calls.{Refusals, call-refused, call-clear, call-done, call-either}
-use Rattle.mend.proofs.Accepted.{judge-kept}
+use Rattle.judge.proofs.Kept.{judge-kept}
 use Rattle.mend.proofs.Mending.{whole-good, mend-fresh}
 use Rattle.kept.specs.Edits.{editRules, lifetimeRules, lifetimeLeft, lifetimeOf, sideAt, addressRules, addressLeft, addressOf, stretchRules, stretchLeft, stretchOf}
 use Rattle.kept.specs.Runs.{Fit, Edit, lifetime, address, stretch, apply, rulesOf, placeOf, newOf}

@@ -24,7 +24,7 @@ use Rattle.mend.specs.Mend.{Outside}
 use Rattle.mend.proofs.Numbers.{sent-small}
 use Rattle.cover.proofs.Blocks.{header-in, header-out, message-out}
 use Rattle.mend.proofs.Fresh.{HeaderKept, MessageKept, writeH, writeF, sameH, sameF, header-carry, silent-carry, message-carry, message-self}
-use Rattle.mend.proofs.Accepted.{Accepted, accepted-whole}
+use Rattle.judge.proofs.Kept.{Accepted, accepted-whole}
 use Rattle.kept.specs.Update.{updatedAt, headerAfter, messageAfter}
 use Rattle.kept.specs.Edits.{editRules, lowered}
 use Rattle.kept.proofs.Done.{header-done, message-done}

@@ -2,7 +2,6 @@
 pub mod Numbers
 pub mod Fresh
 pub mod Without
-pub mod Accepted
 pub mod Mended
 pub mod Mending
 pub mod Unseen

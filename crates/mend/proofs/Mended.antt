@@ -21,7 +21,7 @@ use Rattle.mend.specs.Mend.{mendedHeader, mendedMessage, Outside}
 use Rattle.mend.proofs.Numbers.{sent-some, sent-small}
 use Rattle.cover.proofs.Blocks.{header-out, header-word, message-out, message-field}
 use Rattle.mend.proofs.Fresh.{writeH, writeF, sameH, sameF, asideH, asideF, freshF, header-fresh, silent-carry, fresh-carry}
-use Rattle.mend.proofs.Accepted.{whole-facts}
+use Rattle.judge.proofs.Kept.{whole-facts}
 
 -- ---- the header's field set
 record HeaderSet (p q : List ℕ) : Type 0 where

@@ -35,7 +35,7 @@ use Rattle.mend.specs.Mend.{mendedHeader, mendedMessage, mendOf, Outside
 use Rattle.verdicts.proofs.Calls.{call-answers, call-refused, call-clear, call-done, call-either}
 use Rattle.mend.proofs.Numbers.{sent-passes, passing-fresh}
 use Rattle.mend.proofs.Fresh.{asideH, asideF, freshF}
-use Rattle.mend.proofs.Accepted.{whole-facts}
+use Rattle.judge.proofs.Kept.{whole-facts}
 use Rattle.mend.proofs.Mended.{Mended, both-set}
 
 -- ---- what it answers, and what it changes

@@ -19,7 +19,7 @@ use Rattle.judge.proofs.Accepts.{verdict-good}
 use Rattle.judge.proofs.Accepts.{accepted as judge·accepted}
 use Rattle.cover.proofs.Blocks.{header-out, message-word}
 use Rattle.mend.proofs.Fresh.{silent-carry}
-use Rattle.mend.proofs.Accepted.{Accepted, accepted-whole, judge-kept}
+use Rattle.judge.proofs.Kept.{Accepted, accepted-whole, judge-kept}
 
 -- what is known of a good packet
 good-message : (p : List ℕ) → judgeOf p ≡ Good → Accepted p × (messageSums p ≡ true)

@@ -1,4 +1,4 @@
--- A packet that every edit goes on with, and what keeps the judge's answer on any packet whose header has its shape.
+-- What keeps the judge's answer, and the packets that the edits go on with.
 use mathlib.Core.Path.{_≡_, sym, ap, _∙_}
 use Prim.Native.Nat.{ℕ}
 use mathlib.Core.List.{List, _∷_, _++_}
