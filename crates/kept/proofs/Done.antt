@@ -60,8 +60,10 @@ module _ {p q : List ℕ} (k : Facts p) (by : Bytes p) (a : Same p q) (at : ℕ)
       there r0 v (messageTotal r) (wordAt p (fieldAt p)) (messageTotal q) q0 c f' (ap (λ n. q0 + n) (sym e) ∙ asideF k a) some1 in
       let x = block-alike (messageTotal p) (messageTotal q) (messageTotal r) _ _ (wordAt p (fieldAt p)) v (udp p) (word-small p (fieldAt p) by) t f' refl in
       record {
-        silent = silent-at sr k ∙ rw w (sent-some (udp p) (updatedAt p (fieldAt p) pos at new)) ∙ sym s;
-        sums = λ g. pass-alike (messageTotal r) (messageTotal p) (more r0 v (messageTotal r) c some2) (more _ _ (messageTotal p) z some0) x;
+        heard = record {
+          silent = silent-at sr k ∙ rw w (sent-some (udp p) (updatedAt p (fieldAt p) pos at new)) ∙ sym s;
+          sums = λ g. pass-alike (messageTotal r) (messageTotal p) (more r0 v (messageTotal r) c some2) (more _ _ (messageTotal p) z some0) x;
+        };
         fresh = λ g u.
             ap (wordAt r) (field-same (sr .header)) ∙ w
             ∙ block-fresh (messageTotal p) (messageTotal q) (messageTotal r) (messageTotal (putWord p (fieldAt p) 0)) r0 _ _ (wordAt p (fieldAt p)) v (udp p)

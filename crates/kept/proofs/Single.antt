@@ -112,7 +112,7 @@ still e p f b =
     let s = k .same in
     record {
       bytes = k .bytes;
-      judged = judge-kept s (k .header .sums) (λ w. record { silent = k .message .silent; sums = k .message .sums });
+      judged = judge-kept s (k .header .sums) (λ w. k .message .heard);
       header = k .header .fresh;
       message = k .message .fresh;
       mended = λ h.

@@ -129,8 +129,7 @@ module _ {p q : List ℕ} (k : Facts p) (by : Bytes p) (a : Same p q) (bq : Byte
         bytes = bq;
         header = h;
         kept = record {
-          silent = z;
-          sums = λ g. absurd (true≢false (sym u ∙ g));
+          heard = record { silent = z; sums = λ g. absurd (true≢false (sym u ∙ g)) };
           fresh = λ f g. absurd (true≢false (simp (z ∙ u, four-same (a .header) ∙ quiet u) at g));
         };
         others = λ i o. refl;

@@ -4,7 +4,7 @@ use mathlib.Core.Logic.{inr}
 use Prim.Native.Nat.{ℕ, _+_, _/_, _%_}
 use native.Mathlib.Omega.{arith}
 use mathlib.Core.List.{List, [], _∷_}
-use mathlib.Core.Bool.{false, _&&_}
+use mathlib.Core.Bool.{_&&_}
 use Rattle.verdicts.proofs.Tests.{by-cases}
 use Rattle.sums.specs.Fold.{fold, fieldOf}
 use Rattle.wire.specs.Bytes.{wordAt, putWord}
@@ -14,6 +14,7 @@ use Rattle.wire.proofs.Writes.{Wrote, put-wrote}
 use Rattle.wire.proofs.Same.{Same, field-same, four-same, same-self, same-step, silent-at, soft-header, soft-message, udp-same}
 use Rattle.wire.proofs.Facts.{OuterFacts, Facts}
 use Rattle.cover.specs.Sums.{headerTotal, messageTotal, headerSums, messageSums}
+use Rattle.judge.proofs.Kept.{Heard}
 use Rattle.mend.specs.Mend.{mendedHeader}
 use Rattle.mend.specs.Fresh.{sent, freshHeader, freshMessage, HeaderFresh, MessageFresh}
 use Rattle.cover.proofs.Blocks.{header-word, message-field}
@@ -23,8 +24,7 @@ pub record HeaderKept (p q : List ℕ) : Type 0 where
   pub fresh : HeaderFresh p → HeaderFresh q
 
 pub record MessageKept (p q : List ℕ) : Type 0 where
-  pub silent : silentOf q ≡ silentOf p
-  pub sums : silentOf p ≡ false → messageSums q ≡ messageSums p
+  pub heard : Heard p q
   pub fresh : MessageFresh p → MessageFresh q
 
 -- ---- a word written over a field; a field read as 0000
@@ -84,8 +84,7 @@ module _ {p q r : List ℕ} (k : Facts p) (a : Same p q) (b : Same p r) where
     message-carry h =
         let z : (silentOf r && four r) ≡ (silentOf q && four q) = ap₂ _&&_ (silent-carry e) (four-same (b .header) ∙ sym (four-same (a .header))) in
         record {
-          silent = silent-carry e ∙ h .silent;
-          sums = λ s. rw t (h .sums s);
+          heard = record { silent = silent-carry e ∙ h .heard .silent; sums = λ s. rw t (h .heard .sums s) };
           fresh = λ g s. ap (wordAt r) (field-same (b .header)) ∙ e ∙ ap (wordAt q) (sym (field-same (a .header))) ∙ h .fresh g (sym z ∙ s) ∙ sym fresh-carry;
         }
 
@@ -93,7 +92,7 @@ pub header-self : (p : List ℕ) → HeaderKept p p
 header-self p = record { sums = refl; fresh = λ g. g }
 
 pub message-self : (p : List ℕ) → MessageKept p p
-message-self p = record { silent = refl; sums = λ s. refl; fresh = λ g. g }
+message-self p = record { heard = record { silent = refl; sums = λ s. refl }; fresh = λ g. g }
 
 -- mending the header leaves the layout
 pub mended-same : {p : List ℕ} → OuterFacts p → Same p (mendedHeader p)
