@@ -4,22 +4,22 @@ use mathlib.Core.Path.{_≡_, refl, sym, ap, ap₂, _∙_}
 use mathlib.Core.Bool.{false}
 use mathlib.Core.List.{List, [], _∷_, _++_}
 use native.Mathlib.Omega.{arith}
-use native.Mathlib.Numerals.{add-one}
 use lib.ListN.{length}
-use Rattle.sums.specs.Total.{total}
+use Rattle.sums.specs.Total.{weigh, total, oddly}
 use Rattle.sums.specs.Fold.{fold, fieldOf}
 use Rattle.sums.proofs.Folds.{fold-both}
+use Rattle.sums.proofs.Totals.{weigh-even, oddly-length}
 use Rattle.sums.proofs.Joins.{join-even}
-use Rattle.wire.specs.Bytes.{part, putWord, odd}
+use Rattle.wire.specs.Bytes.{part, putWord}
 use Rattle.wire.specs.Outer.{familyOf, protocolOf, headerEnd, addressesAt, addressesLength, headerField}
 use Rattle.wire.specs.Messages.{beforeIn}
 use Rattle.wire.specs.Inner.{startOf, endOf, lengthOf, fieldAt, addressesOf, beforeOf, coveredOf}
-use Rattle.wire.proofs.Writes.{Wrote, part-below, put-wrote}
+use Rattle.wire.proofs.Parts.{part-length, part-cut}
+use Rattle.wire.proofs.Writes.{Wrote, part-below, part-above, part-they, put-wrote}
 use Rattle.wire.proofs.Facts.{Facts}
 use Rattle.wire.proofs.Same.{same-self, header-end-same, covered-at}
 use Rattle.cover.specs.Sums.{headerTotal, messageTotal}
 use Rattle.cover.proofs.Before.{addresses-even, before-even}
-use Rattle.cover.proofs.Tally.{tally, turns, turns-odd, weigh-tally, tally-add, part-before, part-behind}
 use Rattle.mend.specs.Fresh.{freshHeader}
 use Rattle.mend.proofs.Fresh.{sameH, writeF, sameF}
 
@@ -28,22 +28,17 @@ module _ (p : List ℕ) (a f e : ℕ) (low : a ≤ f) (even : (f - a) % 2 ≡ 0)
   w = put-wrote p f (0 ∷ 0 ∷ []) (omega arith)
 
   without-total : total (part (putWord p f 0) a (e - a)) ≡ total (part p a (f - a)) + total (part p (f + 2) (e - (f + 2)))
-  unfolding tally odd
+  unfolding weigh
   without-total =
       let q = putWord p f 0 in
-      let n = e - a in
-      let m = f - a in
-      let y = e - (f + 2) in
-      let o : turns false m ≡ false = turns-odd m ∙ rw even in
-      let z0 = w .inside 0 f (omega arith) (omega arith) in
-      let z1 = w .inside 1 (f + 1) refl (omega arith) in
-      let h0 = weigh-tally q false a n (let l = w .long in omega arith) in
-      let h1 : tally q false a n ≡ tally q false a m + tally q false f (2 + y) = rw o at (tally-add q false a m f (2 + y) n (omega arith) (omega arith)) in
-      let h2 : tally q false f (2 + y) ≡ tally q false f 2 + tally q false (f + 2) y = rw (turns-odd 2) at (tally-add q false f 2 (f + 2) y (2 + y) refl refl) in
-      let h3 : tally q false f 2 ≡ 0 = rw (sym (add-one f)) (omega arith) in
-      let h4 = part-before w false a m (omega arith) in
-      let h5 = part-behind w false (f + 2) y (omega arith) in
-      omega (arith, weigh-tally p false a m (omega arith), weigh-tally p false (f + 2) y (omega arith))
+      let x = part p a (f - a) in
+      let y = part p (f + 2) (e - (f + 2)) in
+      let n : f + 2 - f ≡ 2 = omega arith in
+      let word : part q f (f + 2 - f) ≡ 0 ∷ 0 ∷ [] = rw n (part-they w (omega arith)) in
+      let behind : part q f (e - f) ≡ 0 ∷ 0 ∷ y = part-cut q f (f + 2) e (omega arith) high ∙ ap₂ _++_ word (part-above w (f + 2) (e - (f + 2)) (omega arith) (omega arith)) in
+      let o : oddly x ≡ false = oddly-length x ∙ rw (part-length p a (f - a) (omega arith), even) in
+      ap total (part-cut q a f e low (omega arith) ∙ ap₂ _++_ (part-below w a (f - a) (omega arith) (omega arith)) behind)
+      ∙ weigh-even false x (0 ∷ 0 ∷ y) o ∙ omega arith
 
   pub without : (s t : ℕ) → s ≡ fold (total (part p a (f - a))) → t ≡ fold (total (part p (f + 2) (e - (f + 2))))
       → fold (s + t) ≡ fold (total (part (putWord p f 0) a (e - a)))
