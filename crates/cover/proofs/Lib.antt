@@ -1,5 +1,5 @@
 -- Laws of the totals: what stands before a message, parts of a packet, and what writing bytes does.
 pub mod Before
-pub mod Tally
+pub mod Around
 pub mod Totals
 pub mod Blocks

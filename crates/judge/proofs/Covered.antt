@@ -1,18 +1,16 @@
 -- The judge's blocks at the RFCs' places, for packets of bytes.
 use mathlib.Core.Path.{_≡_, sym, ap, ap₂, subst, _∙_}
 use mathlib.Core.Logic.{_↔_}
-use Prim.Native.Nat.{ℕ, _+_, _-_, _/_, _%_, _<_, _≤_}
+use Prim.Native.Nat.{ℕ, _-_, _/_, _%_, _<_, _≤_}
 use native.Mathlib.Omega.{arith}
 use mathlib.Core.List.{List, [], _∷_, _++_, append-assoc}
 use mathlib.Core.Bool.{true, false}
-use lib.ListN.{take, drop}
-use lib.Seq.{take-add, drop-drop}
 use Rattle.verdicts.proofs.Tests.{by-cases}
 use Rattle.wire.specs.Bytes.{byteAt, wordAt, part, Bytes}
 use Rattle.wire.specs.Outer.{four, familyOf, headerEnd, declaredEnd, protocolOf, addressesAt, addressesLength}
 use Rattle.wire.specs.Messages.{restIn}
 use Rattle.wire.specs.Inner.{startOf, endOf, lengthOf, messageBytes, pseudo, headerBytes, addressesOf, beforeOf, coveredOf}
-use Rattle.wire.proofs.Parts.{Small, bytes-append, bytes-small, bytes-part}
+use Rattle.wire.proofs.Parts.{part-add, Small, bytes-append, bytes-small, bytes-part}
 use Rattle.wire.specs.declared.Family.{Family}
 use Rattle.wire.specs.declared.Family.the-variants.{Four, Six}
 use Rattle.wire.proofs.Facts.{Facts}
@@ -21,10 +19,6 @@ use Rattle.wire.proofs.Same.{same-self, covered-at}
 use Rattle.cover.specs.Sums.{headerTotal, messageTotal, headerSums, messageSums}
 use Rattle.judge.specs.Rfc.{Right, ihl, data4, data6, pseudo4, pseudo6}
 use Rattle.judge.proofs.Ones.{right-passes}
-
--- two parts side by side
-side : (p : List ℕ) (a n : ℕ) → part p a (n + n) ≡ part p a n ++ part p (a + n) n
-side p a n = take-add n n (drop a p) ∙ ap (λ l. part p a n ++ take n l) (drop-drop n a p)
 
 module _ (p : List ℕ) where
   -- ---- IPv4
@@ -52,7 +46,7 @@ module _ (p : List ℕ) where
     covered4 k t n size en es =
         let rest : List ℕ = 0 ∷ n ∷ size / 256 ∷ size % 256 ∷ [] in
         let before : beforeOf p ≡ pseudo4 p n size =
-        before-is p t ∙ simp (family4 p f, f, en, es) (ap (λ l. l ++ rest) (side p 12 4) ∙ append-assoc (part p 12 4) (part p 16 4) rest) in
+        before-is p t ∙ simp (family4 p f, f, en, es) (ap (λ l. l ++ rest) (part-add p 12 4 4) ∙ append-assoc (part p 12 4) (part p 16 4) rest) in
         covered-at (same-self p) k ∙ ap₂ _++_ before message4
 
     pub plain4 : Facts p → pseudo p ≡ false → coveredOf p ≡ data4 p
@@ -83,7 +77,7 @@ module _ (p : List ℕ) where
         let b : size / 65536 % 256 ≡ 0 = omega arith in
         let c : size / 256 % 256 ≡ size / 256 = omega arith in
         let before : beforeOf p ≡ pseudo6 p n size =
-        before-is p t ∙ simp (family6 p f, f, en, es, a, b, c) (ap (λ l. l ++ rest) (side p 8 16) ∙ append-assoc (part p 8 16) (part p 24 16) rest) in
+        before-is p t ∙ simp (family6 p f, f, en, es, a, b, c) (ap (λ l. l ++ rest) (part-add p 8 16 16) ∙ append-assoc (part p 8 16) (part p 24 16) rest) in
         covered-at (same-self p) k ∙ ap₂ _++_ before message6
 
   module _ (b : Bytes p) (k : Facts p) where

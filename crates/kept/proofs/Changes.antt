@@ -10,7 +10,7 @@ use lib.Dec.{eqb}
 use borrow.Author.Tests.{ltb-false, eqb-false, eq-eqb, ne-eqb}
 use Rattle.verdicts.specs.Rules.{clear}
 use Rattle.verdicts.proofs.Tests.{by-cases, or-false}
-use Rattle.sums.specs.Total.{weigh}
+use Rattle.sums.specs.Total.{weigh, total}
 use Rattle.wire.specs.Outer.{addressesAt, four, headerField, protocolOf}
 use Rattle.wire.specs.Inner.{bodyOf, endOf, fieldAt, lengthOf, pseudo, startOf}
 use Rattle.wire.proofs.Writes.{bytes-wrote, put-wrote, word-above, word-below}
@@ -19,8 +19,7 @@ use Rattle.wire.specs.Bytes.{part, put, putWord, Bytes}
 use Rattle.wire.proofs.Facts.{Facts}
 use Rattle.cover.specs.Sums.{messageTotal}
 use Rattle.mend.specs.Mend.{Outside}
-use Rattle.cover.proofs.Tally.{tally, weigh-tally}
-use Rattle.cover.proofs.Totals.{addressTally, restTally, message-tally}
+use Rattle.cover.proofs.Totals.{addressTotal, restTotal, message-parts}
 use Rattle.cover.proofs.Blocks.{header-out, message-out, message-address, message-in, message-some}
 use Rattle.mend.proofs.Fresh.{sameF, header-carry, message-carry, header-self, message-self}
 use Rattle.judge.proofs.Kept.{Accepted}
@@ -92,17 +91,11 @@ some-weigh true (x ∷ xs) e =
 
 module _ {p q : List ℕ} (k : Facts p) (a : Same p q) where
   unblank : blank p q ≡ false → pseudo p ≡ false → 0 < messageTotal (putWord q (fieldAt p) 0)
-  unfolding addressTally restTally blank
+  unfolding addressTotal restTotal blank
   unblank b t =
-      let s = sameF k a 0 in
-      let e : messageTotal (putWord q (fieldAt p) 0) ≡ 0 + 0 + tally (putWord q (fieldAt p) 0) false (startOf p) (lengthOf p) =
-      message-tally k s ∙ simp t in
-      omega (
-        arith,
-        s .long,
-        weigh-tally (putWord q (fieldAt p) 0) false (startOf p) (lengthOf p) (let l = s .long in omega arith),
-        some-weigh false (part (putWord q (fieldAt p) 0) (startOf p) (lengthOf p)) b,
-      )
+      let r = putWord q (fieldAt p) 0 in
+      let e : messageTotal r ≡ 0 + 0 + total (part r (startOf p) (lengthOf p)) = message-parts k (sameF k a 0) ∙ simp t in
+      omega (arith, some-weigh false (part r (startOf p) (lengthOf p)) b)
 
 module _ (p : List ℕ) (by : Bytes p) (c : Accepted p) (place : ℕ) where
   stretch-some : (new : List ℕ) → Bytes new → 0 < length new → clear (stretchRules p place new)

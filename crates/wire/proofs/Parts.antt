@@ -46,11 +46,14 @@ part-same p q a n h k same =
     part-byte q a n i m ∙ same (a + i) (omega arith) (omega arith) ∙ sym (part-byte p a n i m))
 
 -- a part in two
+pub part-add : (p : List ℕ) (a m n : ℕ) → part p a (m + n) ≡ part p a m ++ part p (a + m) n
+part-add p a m n = take-add m n (drop a p) ∙ rw (drop-drop m a p)
+
 pub part-cut : (p : List ℕ) (a b c : ℕ) → a ≤ b → b ≤ c → part p a (c - a) ≡ part p a (b - a) ++ part p b (c - b)
 part-cut p a b c h k =
     let e : c - a ≡ (b - a) + (c - b) = omega arith in
     let f : a + (b - a) ≡ b = omega arith in
-    rw e (take-add (b - a) (c - b) (drop a p) ∙ rw (drop-drop (b - a) a p, f))
+    rw e (part-add p a (b - a) (c - b) ∙ rw f)
 
 -- ---- strings of bytes
 pub bytes-append : (a b : List ℕ) → Bytes a → Bytes b → Bytes (a ++ b)
