@@ -54,10 +54,10 @@ use Rattle.a.specs.declared.Verdict.the-variants as verdict
 
 pub promised : (xs : List) → total (xs ++ xs) ≡ total xs
 unfolding total
-promised xs = helper xs verdict.Good
+promised xs = helps xs verdict.Good
   where
-    helper : (xs : List) → total xs ≡ total xs
-    helper xs = sym refl
+    helps : (xs : List) → total xs ≡ total xs
+    helps xs = sym refl
 
 module _ (xs : List) where
   pub listed : Rule → if total xs then Rule else Rule
