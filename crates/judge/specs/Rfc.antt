@@ -81,14 +81,14 @@ Stands p first place header summed = (fieldAt p ≡ first + place) × (bodyOf p 
 abbrev pub tcpHeader : List ℕ → ℕ → ℕ
 tcpHeader p first = byteAt p (first + 12) / 16 * 4
 
--- RFC 792: ICMP's at 2, behind it a header of 8 bytes in all (house); RFC 9293: TCP's at 16; RFC 768: UDP's at 6, a header of 8
+-- RFC 792: ICMP's at 2, in a header of 8 bytes (house); RFC 9293: TCP's at 16; RFC 768: UDP's at 6, in a header of 8
 abbrev pub Fields4 : List ℕ → Type 0
 Fields4 p =
     ((byteAt p 9 ≡ 1) × Stands p (ihl p) 2 8 false)
     ⊎ ((byteAt p 9 ≡ 6) × Stands p (ihl p) 16 (tcpHeader p (ihl p)) true)
     ⊎ ((byteAt p 9 ≡ 17) × Stands p (ihl p) 6 8 true)
 
--- RFC 4443: ICMPv6's at 2, a header of 4
+-- RFC 4443: ICMPv6's at 2, in a header of 4
 abbrev pub Fields6 : List ℕ → Type 0
 Fields6 p =
     ((byteAt p 6 ≡ 58) × Stands p 40 2 4 true)
