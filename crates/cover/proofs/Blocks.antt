@@ -11,8 +11,8 @@ use Rattle.sums.specs.Total.{weigh, total}
 use Rattle.wire.specs.Bytes.{wordAt, part, odd}
 use Rattle.wire.specs.Outer.{headerEnd, headerField, addressesAt, addressesLength}
 use Rattle.wire.specs.Inner.{startOf, endOf, lengthOf, fieldAt, pseudo}
-use Rattle.wire.proofs.Writes.{Wrote, part-below, part-above}
 use Rattle.wire.proofs.Facts.{OuterFacts, Facts}
+use Rattle.wire.proofs.Writes.{Wrote, part-below, part-above}
 use Rattle.wire.proofs.Same.{Same}
 use Rattle.cover.specs.Sums.{headerTotal, messageTotal}
 use Rattle.cover.proofs.Around.{part-around, word-weigh, part-some}

@@ -2,9 +2,9 @@
 use Prim.Native.Nat.{ℕ}
 use mathlib.Core.List.{List}
 use mathlib.Core.Bool.{Bool, true}
+use Rattle.verdicts.specs.Choice.{if_then_else_}
 use Rattle.sums.specs.Total.{total}
 use Rattle.sums.specs.Fold.{passes}
-use Rattle.verdicts.specs.Choice.{if_then_else_}
 use Rattle.wire.specs.Outer.{four}
 use Rattle.wire.specs.Inner.{headerBytes, coveredOf}
 

@@ -12,8 +12,8 @@ use Rattle.wire.specs.Bytes.{part, put, putWord}
 use Rattle.wire.specs.Outer.{protocolOf}
 use Rattle.wire.specs.Inner.{bodyOf, endOf, fieldAt, startOf}
 use Rattle.wire.proofs.Parts.{part-cut}
-use Rattle.wire.proofs.Writes.{put-wrote, part-below, part-above, part-they}
 use Rattle.wire.proofs.Facts.{Facts}
+use Rattle.wire.proofs.Writes.{put-wrote, part-below, part-above, part-they}
 use Rattle.kept.specs.Edits.{allZero, blank}
 
 zero-append : (x y : List ℕ) → allZero (x ++ y) ≡ (allZero x && allZero y)

@@ -22,8 +22,8 @@ use Rattle.wire.specs.declared.Message.{Message}
 use Rattle.wire.proofs.Held.{held-silent}
 use Rattle.mend.specs.Fresh.{sent}
 use Rattle.kept.specs.Update.{updatedAt, headerAfter, messageAfter}
-use Rattle.edit.specs.Steps.{headerPut, messagePut}
 use Rattle.kept.specs.Edits.{Addressed, addressLeft}
+use Rattle.edit.specs.Steps.{headerPut, messagePut}
 use Rattle.edit.specs.Steps.{lifetimeIn}
 
 -- ---- the fields

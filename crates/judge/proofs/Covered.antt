@@ -10,12 +10,12 @@ use Rattle.wire.specs.Bytes.{byteAt, wordAt, part, Bytes}
 use Rattle.wire.specs.Outer.{four, familyOf, headerEnd, declaredEnd, protocolOf, addressesAt, addressesLength}
 use Rattle.wire.specs.Messages.{restIn}
 use Rattle.wire.specs.Inner.{startOf, endOf, lengthOf, messageBytes, pseudo, headerBytes, addressesOf, beforeOf, coveredOf}
-use Rattle.wire.proofs.Parts.{part-add, Small, bytes-append, bytes-small, bytes-part}
 use Rattle.wire.specs.declared.Family.{Family}
 use Rattle.wire.specs.declared.Family.the-variants.{Four, Six}
+use Rattle.wire.proofs.Parts.{part-add, Small, bytes-append, bytes-small, bytes-part}
 use Rattle.wire.proofs.Facts.{Facts}
-use Rattle.wire.proofs.Held.{before-is, family4, family6}
 use Rattle.wire.proofs.Same.{same-self, covered-at}
+use Rattle.wire.proofs.Held.{before-is, family4, family6}
 use Rattle.cover.specs.Sums.{headerTotal, messageTotal, headerSums, messageSums}
 use Rattle.judge.specs.Rfc.{Right, ihl, data4, data6, pseudo4, pseudo6}
 use Rattle.judge.proofs.Ones.{right-passes}

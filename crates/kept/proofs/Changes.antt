@@ -11,18 +11,18 @@ use borrow.Author.Tests.{ltb-false, eqb-false, eq-eqb, ne-eqb}
 use Rattle.verdicts.specs.Rules.{clear}
 use Rattle.verdicts.proofs.Tests.{by-cases, or-false}
 use Rattle.sums.specs.Total.{weigh, total}
+use Rattle.wire.specs.Bytes.{part, put, putWord, Bytes}
 use Rattle.wire.specs.Outer.{addressesAt, four, headerField, protocolOf}
 use Rattle.wire.specs.Inner.{bodyOf, endOf, fieldAt, lengthOf, pseudo, startOf}
+use Rattle.wire.proofs.Facts.{Facts}
 use Rattle.wire.proofs.Writes.{bytes-wrote, put-wrote, word-above, word-below}
 use Rattle.wire.proofs.Same.{Same, same-self, same-step, soft-header, soft-message}
-use Rattle.wire.specs.Bytes.{part, put, putWord, Bytes}
-use Rattle.wire.proofs.Facts.{Facts}
 use Rattle.cover.specs.Sums.{messageTotal}
-use Rattle.mend.specs.Mend.{Outside}
 use Rattle.cover.proofs.Totals.{addressTotal, restTotal, message-parts}
 use Rattle.cover.proofs.Blocks.{header-out, message-out, message-address, message-in, message-some}
-use Rattle.mend.proofs.Fresh.{sameF, header-carry, message-carry, header-self, message-self}
 use Rattle.judge.proofs.Kept.{Accepted}
+use Rattle.mend.specs.Mend.{Outside}
+use Rattle.mend.proofs.Fresh.{sameF, header-carry, message-carry, header-self, message-self}
 use Rattle.kept.specs.Update.{messageAfter}
 use Rattle.kept.specs.Edits.{Addressed, addressLeft, allZero, blank, stretchRules, stretchLeft}
 use Rattle.kept.proofs.Steps.{Kept, header-step, message-step}

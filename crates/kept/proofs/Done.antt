@@ -9,13 +9,13 @@ use Rattle.sums.specs.Total.{weigh}
 use Rattle.wire.specs.Bytes.{wordAt, part, putWord, odd, Bytes}
 use Rattle.wire.specs.Outer.{headerField}
 use Rattle.wire.specs.Inner.{fieldAt, silentOf, udp}
+use Rattle.wire.proofs.Facts.{OuterFacts, Facts}
 use Rattle.wire.proofs.Writes.{word-small, word-wrote}
 use Rattle.wire.proofs.Same.{Same, silent-at, field-same, four-same, same-self}
-use Rattle.wire.proofs.Facts.{OuterFacts, Facts}
 use Rattle.cover.specs.Sums.{headerTotal, messageTotal, headerSums, messageSums}
+use Rattle.cover.proofs.Blocks.{header-word, message-field, header-some}
 use Rattle.mend.specs.Fresh.{sent, freshHeader}
 use Rattle.mend.proofs.Numbers.{pass-alike, sent-some, block-alike, block-fresh}
-use Rattle.cover.proofs.Blocks.{header-word, message-field, header-some}
 use Rattle.mend.proofs.Fresh.{HeaderKept, MessageKept, writeH, writeF, sameH, sameF, asideH, asideF, freshF}
 use Rattle.kept.specs.Update.{updatedAt}
 

@@ -19,8 +19,8 @@ use Rattle.wire.specs.Bytes.{byteAt, part, put, putWord}
 use Rattle.wire.specs.Outer.{four, versionOf, lifetimeAt, addressSize, protocolOf}
 use Rattle.wire.specs.Inner.{startOf, endOf, lengthOf, fieldAt, bodyOf, wholeRules}
 use Rattle.wire.proofs.Parts.{part-length, part-byte}
-use Rattle.wire.proofs.Writes.{put-wrote, unwritten}
 use Rattle.wire.proofs.Facts.{Facts}
+use Rattle.wire.proofs.Writes.{put-wrote, unwritten}
 use Rattle.judge.specs.Judge.{missingRule}
 use Rattle.judge.specs.Cases.{wholeCases, missingCase}
 use Rattle.judge.proofs.Accepts.{shaped}

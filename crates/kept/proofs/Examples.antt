@@ -8,9 +8,9 @@ use Rattle.sums.specs.Fold.{fold, passes}
 use Rattle.sums.specs.Update.{updated}
 use Rattle.wire.specs.Bytes.{put, odd}
 use Rattle.wire.specs.Outer.{familyOf, headerEnd, declaredEnd, fragmentOf, outerRules, protocolOf}
+use Rattle.wire.specs.Table.{rowOf}
 use Rattle.wire.specs.Messages.{shapeRules}
 use Rattle.wire.specs.Inner.{carriedOf, bodyOf, endOf, fieldAt, messageRules, pseudo, silentOf, startOf, wholeRules}
-use Rattle.wire.specs.Table.{rowOf}
 use Rattle.cover.specs.Sums.{headerTotal, messageTotal, headerSums, messageSums}
 use Rattle.judge.specs.Judge.{sumRules, judgeRules, judgeOf}
 use Rattle.mend.specs.Fresh.{sent}

@@ -6,9 +6,9 @@ use native.Mathlib.Decide.{decLt}
 use mathlib.Core.List.{List, [], _∷_}
 use lib.ListN.{length}
 use Rattle.verdicts.specs.Rules.{first}
-use Rattle.verdicts.proofs.Rules.{first-map, first-either}
 use Rattle.verdicts.specs.declared.Verdict.{Verdict}
 use Rattle.verdicts.specs.declared.Verdict.the-variants.{Good}
+use Rattle.verdicts.proofs.Rules.{first-map, first-either}
 use Rattle.wire.specs.Bytes.{byteAt, put, Bytes}
 use Rattle.wire.proofs.Writes.{put-wrote}
 use Rattle.judge.specs.Judge.{judgeOf}

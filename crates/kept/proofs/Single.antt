@@ -9,6 +9,7 @@ use Rattle.verdicts.specs.Rules.{first, clear}
 use Rattle.verdicts.specs.declared.Verdict.{Verdict}
 use Rattle.verdicts.specs.declared.Verdict.the-variants.{Good}
 use Rattle.verdicts.proofs.Rules.{clear-both}
+use Rattle.verdicts.proofs.Calls.{Refusals, call-refused, call-clear, call-done, call-either}
 use Rattle.wire.specs.Bytes.{byteAt, Bytes}
 use Rattle.wire.specs.Outer.{outerRules}
 use Rattle.wire.specs.Messages.{shapeRules}
@@ -16,10 +17,9 @@ use Rattle.wire.specs.Inner.{bodyOf, messageRules, wholeRules}
 use Rattle.wire.proofs.Writes.{put-wrote}
 use Rattle.wire.proofs.Same.{field-same, four-same, whole-same}
 use Rattle.judge.specs.Judge.{judgeOf}
+use Rattle.judge.proofs.Kept.{judge-kept}
 use Rattle.mend.specs.Fresh.{HeaderFresh, MessageFresh}
 use Rattle.mend.specs.Mend.{mendOf, Outside}
-use Rattle.verdicts.proofs.Calls.{Refusals, call-refused, call-clear, call-done, call-either}
-use Rattle.judge.proofs.Kept.{judge-kept}
 use Rattle.mend.proofs.Mending.{whole-good, mend-fresh}
 use Rattle.kept.specs.Edits.{editRules, lifetimeRules, lifetimeLeft, lifetimeOf, sideAt, addressRules, addressLeft, addressOf, stretchRules, stretchLeft, stretchOf}
 use Rattle.kept.specs.Runs.{Fit, Edit, lifetime, address, stretch, apply, rulesOf, placeOf, newOf}

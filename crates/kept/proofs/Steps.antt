@@ -14,17 +14,17 @@ use Rattle.sums.specs.Update.{updated}
 use Rattle.wire.specs.Bytes.{byteAt, wordAt, part, put, putWord, odd, Bytes}
 use Rattle.wire.specs.Outer.{addressesAt, four, headerEnd, headerField, lifetimeAt}
 use Rattle.wire.specs.Inner.{fieldAt, silentOf, udp, wholeRules}
+use Rattle.wire.proofs.Facts.{Facts}
 use Rattle.wire.proofs.Writes.{Wrote, bytes-word, bytes-wrote, put-wrote, word-above, word-below}
 use Rattle.wire.proofs.Same.{Same, four-same, same-self, same-step, soft-header}
-use Rattle.wire.proofs.Facts.{Facts}
 use Rattle.cover.specs.Sums.{messageTotal, headerSums}
+use Rattle.cover.proofs.Blocks.{header-in, header-out, message-out}
 use Rattle.judge.specs.Judge.{missingRule}
+use Rattle.judge.proofs.Kept.{Accepted, accepted-whole}
 use Rattle.mend.specs.Fresh.{sent}
 use Rattle.mend.specs.Mend.{Outside}
 use Rattle.mend.proofs.Numbers.{sent-small}
-use Rattle.cover.proofs.Blocks.{header-in, header-out, message-out}
 use Rattle.mend.proofs.Fresh.{HeaderKept, MessageKept, writeH, writeF, sameH, sameF, header-carry, silent-carry, message-carry, message-self}
-use Rattle.judge.proofs.Kept.{Accepted, accepted-whole}
 use Rattle.kept.specs.Update.{updatedAt, headerAfter, messageAfter}
 use Rattle.kept.specs.Edits.{editRules, lowered}
 use Rattle.kept.proofs.Done.{header-done, message-done}
@@ -56,7 +56,7 @@ updated-bytes p f pos at new = omega arith
 
 -- ---- the header's field
 module _ {p q : List ℕ} (k : Facts p) (by : Bytes p) (a : Same p q) (bq : Bytes q) (at : ℕ) (new : List ℕ) (w : Wrote p q at new)
-    (low : at + length new ≤ headerEnd p) (off : four p ≡ true → (at + length new ≤ headerField) ⊎ (12 ≤ at)) where
+    (low : at + length new ≤ headerEnd p) (off : four p ≡ true → (at + length new ≤ headerField) ⊎ (headerField + 2 ≤ at)) where
   pub record HeaderStep (r : List ℕ) : Type 0 where
     pub same : Same p r
     pub bytes : Bytes r

@@ -10,14 +10,14 @@ use Rattle.sums.specs.Fold.{fold, fieldOf}
 use Rattle.wire.specs.Bytes.{wordAt, putWord}
 use Rattle.wire.specs.Outer.{four, headerField}
 use Rattle.wire.specs.Inner.{fieldAt, silentOf, udp}
+use Rattle.wire.proofs.Facts.{OuterFacts, Facts}
 use Rattle.wire.proofs.Writes.{Wrote, put-wrote}
 use Rattle.wire.proofs.Same.{Same, field-same, four-same, same-self, same-step, silent-at, soft-header, soft-message, udp-same}
-use Rattle.wire.proofs.Facts.{OuterFacts, Facts}
 use Rattle.cover.specs.Sums.{headerTotal, messageTotal, headerSums, messageSums}
+use Rattle.cover.proofs.Blocks.{header-word, message-field}
 use Rattle.judge.proofs.Kept.{Heard}
 use Rattle.mend.specs.Mend.{mendedHeader}
 use Rattle.mend.specs.Fresh.{sent, freshHeader, freshMessage, HeaderFresh, MessageFresh}
-use Rattle.cover.proofs.Blocks.{header-word, message-field}
 
 pub record HeaderKept (p q : List ℕ) : Type 0 where
   pub sums : headerSums q ≡ headerSums p

@@ -12,16 +12,16 @@ use Rattle.sums.specs.Fold.{fold, fieldOf}
 use Rattle.wire.specs.Bytes.{byteAt, wordAt, putWord, Bytes}
 use Rattle.wire.specs.Outer.{four, headerField}
 use Rattle.wire.specs.Inner.{fieldAt, silentOf, udp, wholeRules}
+use Rattle.wire.proofs.Facts.{Facts}
 use Rattle.wire.proofs.Writes.{bytes-word, bytes-wrote, word-above, word-below, word-wrote}
 use Rattle.wire.proofs.Same.{silent-at, Same, field-same, four-same, same-self}
-use Rattle.wire.proofs.Facts.{Facts}
 use Rattle.cover.specs.Sums.{headerTotal, messageTotal}
+use Rattle.cover.proofs.Blocks.{header-out, header-word, message-out, message-field}
+use Rattle.judge.proofs.Kept.{whole-facts}
 use Rattle.mend.specs.Fresh.{sent, freshHeader, freshMessage, HeaderFresh, MessageFresh}
 use Rattle.mend.specs.Mend.{mendedHeader, mendedMessage, Outside}
 use Rattle.mend.proofs.Numbers.{sent-some, sent-small}
-use Rattle.cover.proofs.Blocks.{header-out, header-word, message-out, message-field}
 use Rattle.mend.proofs.Fresh.{writeH, writeF, sameH, sameF, asideH, asideF, freshF, header-fresh, silent-carry, fresh-carry}
-use Rattle.judge.proofs.Kept.{whole-facts}
 
 -- ---- the header's field set
 record HeaderSet (p q : List ℕ) : Type 0 where

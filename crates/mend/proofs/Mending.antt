@@ -17,6 +17,7 @@ use Rattle.verdicts.specs.declared.Verdict.the-variants.{Good, Unsummed}
 use Rattle.verdicts.proofs.Tests.{by-cases, and-true}
 use Rattle.verdicts.proofs.Rules.{first-either}
 use Rattle.verdicts.proofs.Telling.{told-exactly}
+use Rattle.verdicts.proofs.Calls.{call-answers, call-refused, call-clear, call-done, call-either}
 use Rattle.sums.specs.Fold.{passes}
 use Rattle.wire.specs.Bytes.{byteAt, wordAt, put, putWord, Bytes}
 use Rattle.wire.specs.Outer.{four, headerField, outerRules}
@@ -30,12 +31,11 @@ use Rattle.judge.specs.Cases.{wholeCases}
 use Rattle.judge.proofs.Exactly.{whole-told}
 use Rattle.judge.proofs.Answers.{good, unsummed, sums4, sums6}
 use Rattle.judge.proofs.Accepts.{accepted, accepting, verdict-good, verdict-unsummed}
+use Rattle.judge.proofs.Kept.{whole-facts}
 use Rattle.mend.specs.Fresh.{sent, freshHeader, freshMessage, HeaderFresh, MessageFresh}
 use Rattle.mend.specs.Mend.{mendedHeader, mendedMessage, mendOf, Outside, Full}
-use Rattle.verdicts.proofs.Calls.{call-answers, call-refused, call-clear, call-done, call-either}
 use Rattle.mend.proofs.Numbers.{sent-passes, passing-fresh}
 use Rattle.mend.proofs.Fresh.{asideH, asideF, freshF}
-use Rattle.judge.proofs.Kept.{whole-facts}
 use Rattle.mend.proofs.Mended.{Mended, both-set}
 
 -- ---- what it answers, and what it changes

@@ -14,12 +14,12 @@ use Rattle.wire.specs.Inner.{bodyOf, coveredOf, endOf, fieldAt, startOf}
 use Rattle.wire.proofs.Writes.{put-wrote, word-above, word-below}
 use Rattle.wire.proofs.Same.{Same, four-same, same-self, same-step, soft-message}
 use Rattle.cover.specs.Sums.{headerTotal, messageTotal, headerSums, messageSums}
+use Rattle.cover.proofs.Blocks.{header-out, message-word}
 use Rattle.judge.specs.Judge.{judgeOf}
 use Rattle.judge.proofs.Accepts.{verdict-good}
 use Rattle.judge.proofs.Accepts.{accepted as judge·accepted}
-use Rattle.cover.proofs.Blocks.{header-out, message-word}
-use Rattle.mend.proofs.Fresh.{silent-carry}
 use Rattle.judge.proofs.Kept.{Accepted, accepted-whole, judge-kept}
+use Rattle.mend.proofs.Fresh.{silent-carry}
 
 -- what is known of a good packet
 good-message : (p : List ℕ) → judgeOf p ≡ Good → Accepted p × (messageSums p ≡ true)

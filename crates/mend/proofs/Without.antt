@@ -15,8 +15,8 @@ use Rattle.wire.specs.Outer.{familyOf, protocolOf, headerEnd, addressesAt, addr
 use Rattle.wire.specs.Messages.{beforeIn}
 use Rattle.wire.specs.Inner.{startOf, endOf, lengthOf, fieldAt, addressesOf, beforeOf, coveredOf}
 use Rattle.wire.proofs.Parts.{part-length, part-cut}
-use Rattle.wire.proofs.Writes.{Wrote, part-below, part-above, part-they, put-wrote}
 use Rattle.wire.proofs.Facts.{Facts}
+use Rattle.wire.proofs.Writes.{Wrote, part-below, part-above, part-they, put-wrote}
 use Rattle.wire.proofs.Same.{same-self, header-end-same, covered-at}
 use Rattle.cover.specs.Sums.{headerTotal, messageTotal}
 use Rattle.cover.proofs.Before.{addresses-even, before-even}

@@ -4,8 +4,8 @@ use mathlib.Core.Path.{_≡_}
 use mathlib.Core.List.{List}
 use mathlib.Core.Bool.{Bool, true, false, _&&_}
 use lib.Dec.{eqb}
-use Rattle.sums.specs.Fold.{fold, fieldOf}
 use Rattle.verdicts.specs.Choice.{if_then_else_}
+use Rattle.sums.specs.Fold.{fold, fieldOf}
 use Rattle.wire.specs.Bytes.{wordAt, putWord}
 use Rattle.wire.specs.Outer.{four, headerField}
 use Rattle.wire.specs.Inner.{fieldAt, udp, silentOf}

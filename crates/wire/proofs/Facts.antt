@@ -13,8 +13,8 @@ use Rattle.wire.specs.Bytes.{byteAt, wordAt}
 use Rattle.wire.specs.Outer.{four, six, versionOf, header4Of, headerEnd, declaredEnd, familyOf, protocolOf, addressesAt, addressesLength, outerRules}
 use Rattle.wire.specs.Messages.{planIn, offsetIn, shapeRules}
 use Rattle.wire.specs.Inner.{startOf, carriedOf, endOf, lengthOf, messageRules, rowIn, bodyOf, tcp, udp, fieldAt, pseudo}
-use Rattle.wire.proofs.Lines.{Lined, row-lined, covered}
 use Rattle.wire.proofs.Parts.{part-length, part-byte, part-word}
+use Rattle.wire.proofs.Lines.{Lined, row-lined, covered}
 
 -- ---- the header
 pub record OuterFacts (p : List ℕ) : Type 0 where

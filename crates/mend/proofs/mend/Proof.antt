@@ -5,9 +5,9 @@ use mathlib.Core.List.{List}
 use denote.Ref.{now}
 use Rattle.verdicts.specs.declared.Verdict.the-variants.{Good}
 use Rattle.wire.specs.Inner.{Holds, wholeOf}
-use Rattle.wire.proofs.Same.{holds-same}
 use Rattle.wire.specs.declared.Message.{Message}
 use Rattle.wire.specs.declared.Part.the-variants.{Whole}
+use Rattle.wire.proofs.Same.{holds-same}
 use Rattle.wire.proofs.Held.{by-whole, held-whole, held-facts}
 use Rattle.mend.specs.Mend.{mendedMessage, mendOf}
 use Rattle.mend.proofs.Fresh.{mended-same}
