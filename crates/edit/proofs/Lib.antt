@@ -1,6 +1,4 @@
 -- What the code answers and writes is what the edits are.
-pub mod Common
 pub mod Made
 pub mod Sides
 pub mod Stretches
-pub mod Blanks

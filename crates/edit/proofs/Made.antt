@@ -23,8 +23,8 @@ use Rattle.wire.proofs.Held.{held-silent}
 use Rattle.mend.specs.Fresh.{sent}
 use Rattle.kept.specs.Update.{updatedAt, headerAfter, messageAfter}
 use Rattle.kept.specs.Edits.{Addressed, addressLeft}
-use Rattle.edit.specs.Steps.{headerPut, messagePut}
-use Rattle.edit.specs.Steps.{lifetimeIn}
+use Rattle.steps.specs.Steps.{headerPut, messagePut}
+use Rattle.edit.specs.Rest.{lifetimeIn}
 
 -- ---- the fields
 module _ {p : List ℕ} {m : Message} (h : Holds p m) where

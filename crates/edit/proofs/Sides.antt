@@ -13,7 +13,7 @@ use Rattle.verdicts.specs.declared.Verdict.the-variants.{Good, Place}
 use Rattle.verdicts.proofs.Tests.{by-cases}
 use Rattle.wire.specs.Outer.{addressSize, addressesAt}
 use Rattle.kept.specs.Edits.{addressLeft}
-use Rattle.edit.specs.Steps.{addressIn}
+use Rattle.edit.specs.Rest.{addressIn}
 
 module _ (p : List ℕ) where
   module _ (side : ℕ) (new : List ℕ) where

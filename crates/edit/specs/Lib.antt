@@ -1,2 +1,2 @@
 -- What the private functions of the edits answer, in terms of the edits.
-pub mod Steps
+pub mod Rest

@@ -3,13 +3,11 @@
 // The sum fields are updated from the changed bytes and the old fields (RFC 1624), never worked out anew: what was
 // right stays right without the packet being read again, and what was wrong stays wrong. A refused edit changes no
 // byte.
-mod blank;
-mod update;
-
-use blank::blanks;
-use update::put_header;
-use update::put_message;
-use update::renewed;
+use steps::blanks;
+use steps::editable;
+use steps::put_header;
+use steps::put_message;
+use steps::renewed;
 use verdicts::Verdict;
 use wire::Family;
 use wire::Message;
@@ -23,7 +21,7 @@ ghost use Rattle.wire.specs.Outer.{four, addressesAt, addressSize};
 ghost use Rattle.wire.specs.Inner.{startOf, endOf, bodyOf, Holds};
 ghost use Rattle.kept.specs.Update.{messageAfter};
 ghost use Rattle.kept.specs.Edits.{lifetimeOf, Addressed, addressLeft, addressOf, stretchOf};
-ghost use Rattle.edit.specs.Steps.{editableOf, lifetimeIn, addressIn};
+ghost use Rattle.edit.specs.Rest.{lifetimeIn, addressIn};
 
 // Lowers the lifetime by one. Spent if it is 0 or 1.
 pub fn lower_lifetime(packet: &mut [u8]) -> Verdict
@@ -98,28 +96,6 @@ pub fn set_stretch(packet: &mut [u8], place: usize, bytes: &[u8]) -> Verdict
             }
             put_stretch(packet, m, at, bytes);
             Verdict::Good
-        }
-    }
-}
-
-// The message of a packet that may be edited, or the first refusal: 2, 3, 4, 6, 7, 8.
-fn editable(packet: &[u8]) -> Part
-    ensures { λ r. ⌜ r ≡ editableOf (now (packet .entry)) ⌝ }
-{
-    let part = wire::whole(packet);
-    match part {
-        Part::Refused(v) => Part::Refused(v),
-        Part::Whole(m) => {
-            let family = m.family;
-            match family {
-                Family::Four => Part::Whole(m),
-                Family::Six => {
-                    if wire::silent(packet, m) {
-                        return Part::Refused(Verdict::Missing);
-                    }
-                    Part::Whole(m)
-                }
-            }
         }
     }
 }

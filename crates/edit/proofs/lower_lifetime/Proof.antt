@@ -10,8 +10,8 @@ use Rattle.wire.specs.declared.Message.{Message}
 use Rattle.wire.specs.declared.Part.the-variants.{Whole}
 use Rattle.wire.proofs.Held.{held-facts, is-four, is-six}
 use Rattle.kept.specs.Edits.{lifetimeOf}
-use Rattle.edit.specs.Steps.{editableOf}
-use Rattle.edit.proofs.Common.{by-editable, held-editable}
+use Rattle.steps.specs.Steps.{editableOf}
+use Rattle.steps.proofs.Common.{by-editable, held-editable}
 use borrow.Author.Needs.{needs}
 use Rattle.edit.proofs.lower_lifetime.Statement.{statement}
 use Rattle.edit.proofs.lower_lifetime.Tie as tie

@@ -9,8 +9,8 @@ use Rattle.wire.specs.declared.Message.{Message}
 use Rattle.wire.specs.declared.Part.the-variants.{Whole}
 use Rattle.wire.proofs.Held.{is-four, is-six}
 use Rattle.kept.specs.Edits.{addressOf}
-use Rattle.edit.specs.Steps.{editableOf}
-use Rattle.edit.proofs.Common.{by-editable, held-editable}
+use Rattle.steps.specs.Steps.{editableOf}
+use Rattle.steps.proofs.Common.{by-editable, held-editable}
 use borrow.Author.Needs.{needs}
 use Rattle.edit.proofs.set_address.Statement.{statement}
 use Rattle.edit.proofs.set_address.Tie as tie

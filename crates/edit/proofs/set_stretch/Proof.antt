@@ -1,23 +1,18 @@
 -- A refusal, or a case of the stretch's own rules.
-use mathlib.Core.Path.{_≡_, _∙_, sym, ap}
-use Prim.Native.Nat.{ℕ, _+_, _-_}
+use mathlib.Core.Path.{_≡_, _∙_, sym}
+use Prim.Native.Nat.{ℕ}
 use native.Mathlib.Omega.{arith}
 use mathlib.Core.List.{List}
-use mathlib.Core.Bool.{_&&_, _||_}
-use lib.Dec.{eqb}
 use denote.Ref.{now}
-use Rattle.verdicts.specs.declared.Verdict.the-variants.{Good}
-use Rattle.wire.specs.Bytes.{put}
-use Rattle.wire.specs.Outer.{protocolOf}
-use Rattle.wire.specs.Inner.{Holds, bodyOf, endOf, startOf}
+use Rattle.wire.specs.Inner.{Holds, bodyOf, endOf}
 use Rattle.wire.specs.declared.Message.{Message}
 use Rattle.wire.specs.declared.Part.the-variants.{Whole}
 use Rattle.wire.proofs.Facts.{Facts}
 use Rattle.wire.proofs.Held.{held-facts}
-use Rattle.kept.specs.Update.{messageAfter}
-use Rattle.kept.specs.Edits.{blank, stretchOf}
-use Rattle.edit.specs.Steps.{editableOf, stretchIn}
-use Rattle.edit.proofs.Common.{by-editable, held-editable}
+use Rattle.kept.specs.Edits.{stretchOf}
+use Rattle.steps.specs.Steps.{editableOf}
+use Rattle.edit.specs.Rest.{stretchIn}
+use Rattle.steps.proofs.Common.{by-editable, held-editable}
 use Rattle.edit.proofs.Stretches.{too-long, empty-kept, blank-refused, stretch-set}
 use borrow.Author.Needs.{needs}
 use Rattle.edit.proofs.set_stretch.Statement.{statement}
@@ -61,12 +56,6 @@ fits c = c .before .before .before .before
 abbrev filled : tie.Else3 → tie.After-part2
 filled c = fits (c .before)
 
-told : (c : tie.After-blanks) → let d = filled (c .before .before) in
-    c .blanks .result ≡ (eqb (protocolOf (P d)) 1 && (blank (P d) (P d) || blank (P d) (put (P d) (bodyOf (P d) + at d) (N d))))
-told c =
-    let d = filled (c .before .before) in
-    c .blanks .ensures ∙ ap (λ (b : ℕ). eqb (protocolOf (P d)) 1 && (blank (P d) (P d) || blank (P d) (put (P d) (b + at d) (N d)))) (known d .body)
-
 returns : tie.Need-returns
 returns c =
     let d = c .before .before .before in
@@ -90,7 +79,8 @@ returns-4 c =
     let f = c .before .before .before in
     let d = filled f in
     let k = known d in
-    blank-refused (P d) (at d) (N d) (omega arith) (f .if3 .left) (sym (told (c .before)) ∙ c .if4 .taken) ∙ into d
+    let b = c .before .blanks in
+    blank-refused (P d) (at d) (N d) (omega arith) (f .if3 .left) (M d .body) (k .body) (b .result) (b .ensures) (c .if4 .taken) ∙ into d
 
 put-stretch-requires : tie.Need-put-stretch-requires
 put-stretch-requires c κs =
@@ -108,9 +98,9 @@ returns-6 c =
     let f = w .before .before .before .before .before in
     let d = filled f in
     let k = known d in
-    ap (λ (q : List ℕ). (Good, q))
-    (w .put-stretch .ensures ∙ ap (λ (a : ℕ). messageAfter (P d) (a - startOf (P d)) a (N d) (put (P d) a (N d))) (ap (λ (x : ℕ). x + at d) (k .body)))
-    ∙ stretch-set (P d) (at d) (N d) (omega arith) (f .if3 .left) (sym (told (w .before .before .before)) ∙ w .before .before .if4 .left) ∙ into d
+    let b = w .before .before .before .blanks in
+    stretch-set (P d) (at d) (N d) (omega arith) (f .if3 .left) (M d .body) (k .body) (b .result) (b .ensures) (w .before .before .if4 .left) _ (w .put-stretch .ensures)
+    ∙ into d
 
 pub set-stretch-spec : {M : Type 1} → statement M
 set-stretch-spec =

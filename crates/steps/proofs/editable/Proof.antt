@@ -9,10 +9,10 @@ use Rattle.wire.specs.Inner.{Holds, silentOf, wholeOf}
 use Rattle.wire.specs.declared.Message.{Message}
 use Rattle.wire.specs.declared.Part.the-variants.{Whole}
 use Rattle.wire.proofs.Held.{held-whole, held-facts, held-silent, is-four, is-six}
-use Rattle.edit.proofs.Common.{refused-whole, missing6, summed6, whole-four}
+use Rattle.steps.proofs.Common.{refused-whole, missing6, summed6, whole-four}
 use borrow.Author.Needs.{needs}
-use Rattle.edit.proofs.editable.Statement.{statement}
-use Rattle.edit.proofs.editable.Tie as tie
+use Rattle.steps.proofs.editable.Statement.{statement}
+use Rattle.steps.proofs.editable.Tie as tie
 
 abbrev P : tie.After-part2 → List ℕ
 P c = now (c .before .before .before .before .args .packet)

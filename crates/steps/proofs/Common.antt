@@ -16,7 +16,7 @@ use Rattle.wire.specs.declared.Part.the-variants.{Refused, Whole}
 use Rattle.wire.proofs.Held.{parted, after-whole, held-whole}
 use Rattle.judge.specs.Judge.{missingRule}
 use Rattle.kept.specs.Edits.{editRules}
-use Rattle.edit.specs.Steps.{editableOf}
+use Rattle.steps.specs.Steps.{editableOf}
 
 -- ---- each answer of `editableOf`
 editable-as : (p : List ℕ) → editableOf p ≡ parted Refused (first (missingRule p) Refused (Whole (messageOf p))) (wholeOf p)

@@ -2,10 +2,10 @@
 use mathlib.Core.Path.{_∙_, sym, ap}
 use denote.Ref.{now}
 use Rattle.wire.specs.declared.Family.{Family}
-use Rattle.edit.specs.Steps.{headerPut}
+use Rattle.steps.specs.Steps.{headerPut}
 use borrow.Author.Needs.{needs}
-use Rattle.edit.proofs.update.put_header.Statement.{statement}
-use Rattle.edit.proofs.update.put_header.Tie as tie
+use Rattle.steps.proofs.update.put_header.Statement.{statement}
+use Rattle.steps.proofs.update.put_header.Tie as tie
 
 returns : tie.Need-returns
 returns c =

@@ -4,8 +4,8 @@ use Prim.Native.Nat.{ℕ}
 use Rattle.sums.specs.Update.{updated}
 use Rattle.mend.specs.Fresh.{sent}
 use borrow.Author.Needs.{needs}
-use Rattle.edit.proofs.update.renewed.Statement.{statement}
-use Rattle.edit.proofs.update.renewed.Tie as tie
+use Rattle.steps.proofs.update.renewed.Statement.{statement}
+use Rattle.steps.proofs.update.renewed.Tie as tie
 
 returns : tie.Need-returns
 returns c =

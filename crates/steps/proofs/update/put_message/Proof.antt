@@ -1,8 +1,8 @@
 -- The field is written unless it is quiet.
 use mathlib.Core.Path.{_∙_, sym}
 use borrow.Author.Needs.{needs}
-use Rattle.edit.proofs.update.put_message.Statement.{statement}
-use Rattle.edit.proofs.update.put_message.Tie as tie
+use Rattle.steps.proofs.update.put_message.Statement.{statement}
+use Rattle.steps.proofs.update.put_message.Tie as tie
 
 pub put-message-spec : {M : Type 1} → statement M
 put-message-spec =

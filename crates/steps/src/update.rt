@@ -8,7 +8,7 @@ ghost use lib.ListN.{length};
 ghost use Rattle.sums.specs.Update.{updated};
 ghost use Rattle.wire.specs.Bytes.{wordAt};
 ghost use Rattle.mend.specs.Fresh.{sent};
-ghost use Rattle.edit.specs.Steps.{headerPut, messagePut};
+ghost use Rattle.steps.specs.Steps.{headerPut, messagePut};
 
 // The field at a place after the old bytes' fold gave way to the new bytes'. UDP's that comes out 0000 becomes FFFF.
 pub fn renewed(packet: &[u8], at: usize, old: Fold, new: Fold, udp: bool) -> u16

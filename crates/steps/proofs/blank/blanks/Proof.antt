@@ -14,10 +14,10 @@ use Rattle.wire.specs.Inner.{endOf, fieldAt, startOf}
 use Rattle.wire.proofs.Facts.{Facts}
 use Rattle.wire.proofs.Held.{held-facts}
 use Rattle.kept.specs.Edits.{allZero, blank}
-use Rattle.edit.proofs.Blanks.{blanks-made, new-decides}
+use Rattle.steps.proofs.AllZero.{blanks-made, new-decides}
 use borrow.Author.Needs.{needs}
-use Rattle.edit.proofs.blank.blanks.Statement.{statement}
-use Rattle.edit.proofs.blank.blanks.Tie as tie
+use Rattle.steps.proofs.blank.blanks.Statement.{statement}
+use Rattle.steps.proofs.blank.blanks.Tie as tie
 
 abbrev P : tie.Start → List ℕ
 P c = now (c .args .packet)

@@ -8,8 +8,8 @@ use lib.ListN.{length, drop, drop-of-length-le}
 use lib.Seq.{drop-cons}
 use denote.Ref.{now}
 use Rattle.kept.specs.Edits.{allZero}
-use Rattle.edit.proofs.blank.zeros.Statement.{statement}
-use Rattle.edit.proofs.blank.zeros.Tie as tie
+use Rattle.steps.proofs.blank.zeros.Statement.{statement}
+use Rattle.steps.proofs.blank.zeros.Tie as tie
 
 abbrev Inv-loop : tie.InvT-loop
 Inv-loop bytes i₀ i = (i ≤ length bytes) × (allZero (drop i bytes) ≡ allZero bytes)

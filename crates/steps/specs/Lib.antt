@@ -1,0 +1,2 @@
+-- What the steps of the edits answer and write.
+pub mod Steps
