@@ -29,7 +29,7 @@ extern "C" {
 
 /* The version of this surface. It goes up by one whenever a function, a constant, or what an answer
  * means is added, changed or taken away; CHANGELOG.md says what a host's author must do then. */
-#define HIFROSTUM_SURFACE_VERSION 1
+#define HIFROSTUM_SURFACE_VERSION 2
 
 /* What a call answers. */
 enum hifrostum_verdict {
@@ -43,7 +43,7 @@ enum hifrostum_verdict {
     HIFROSTUM_UNCOVERED = 7,   /* a protocol that the library doesn't know in this family */
     HIFROSTUM_MISSING = 8,     /* UDP over IPv6 with the field 0000 */
     HIFROSTUM_MESSAGE_SUM = 9, /* the message doesn't pass */
-    HIFROSTUM_PLACE = 10,      /* a piece, stretch, side or address doesn't fit */
+    HIFROSTUM_PLACE = 10,      /* a piece, length, stretch, side or address doesn't fit */
     HIFROSTUM_SPENT = 11,      /* the lifetime is 0 or 1 */
     HIFROSTUM_BLANK = 12,      /* an ICMP message that is, or would be, all zeros */
     HIFROSTUM_MARK = 13,       /* a capture without the mark "GLR" */
@@ -93,14 +93,25 @@ uint8_t hifrostum_set_stretch(uint8_t *packet, size_t len, size_t place,
 uint8_t hifrostum_judge_capture(const uint8_t *capture, size_t len,
                                 uint8_t *verdicts, size_t verdicts_len, size_t *count);
 
-/* The partial sum of pieces of a buffer, joined in list order: its fold, and in *odd 1 if its
- * length is odd, else 0. The list holds offset, length, offset, length; pieces_len counts 32-bit
- * numbers. Pieces may be empty, overlap or repeat. Changes nothing but the two answers.
- * Refusals, with *fold and *odd set to 0: 10 for a list of odd length, or a piece whose offset plus
- * length passes the buffer's end. */
+/* The partial sum of pieces of a buffer, joined in list order: its fold, and in *length how many
+ * bytes were summed. The list holds offset, length, offset, length; pieces_len counts 32-bit numbers.
+ * Pieces may be empty, overlap or repeat. Changes nothing but the two answers.
+ * Refusals, with *fold and *length set to 0: 10 for a list of odd length, a piece whose offset plus
+ * length passes the buffer's end, or lengths that together pass 64 bits. No byte is summed before all
+ * of the list is tested. */
 uint8_t hifrostum_sum_chain(const uint8_t *buffer, size_t len,
                             const uint32_t *pieces, size_t pieces_len,
-                            uint16_t *fold, uint8_t *odd);
+                            uint16_t *fold, uint64_t *length);
+
+/* The partial sum of A's bytes followed by B's, from the partial sums of both. Any folds and lengths
+ * may be given. Changes nothing but the two answers.
+ * Refusals, with *fold and *length set to A's: 10 if the lengths together pass 64 bits.
+ *
+ * Mind the order: *length doesn't tell that A and B were exchanged, and where both lengths are even
+ * *fold doesn't either. length_a is the place of B's first byte in the whole: compare the two before
+ * you join. A piece left out, or joined twice, does show in *length. */
+uint8_t hifrostum_join(uint16_t fold_a, uint64_t length_a, uint16_t fold_b, uint64_t length_b,
+                       uint16_t *fold, uint64_t *length);
 
 /* The field (the complement of the fold) of a byte string, as a number: in a packet its high byte
  * comes first. Refuses nothing. */

@@ -1,2 +1,3 @@
 -- Laws of chains.
+pub mod Lists
 pub mod Chains

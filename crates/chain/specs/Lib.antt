@@ -1,2 +1,3 @@
 -- Chains: the rules paper's last paragraph of "Sums".
 pub mod Chain
+pub mod Sizes

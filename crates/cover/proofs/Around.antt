@@ -8,16 +8,11 @@ use mathlib.Core.List.{List, _++_}
 use mathlib.Core.Bool.{false}
 use lib.ListN.{length}
 use lib.Seq.{drop-cons}
-use Rattle.sums.specs.Total.{weigh, total, oddly}
-use Rattle.sums.proofs.Totals.{oddly-length, weigh-around, total-some}
-use Rattle.wire.specs.Bytes.{byteAt, wordAt, part, odd}
+use Rattle.sums.specs.Total.{odd, weigh, total}
+use Rattle.sums.proofs.Totals.{weigh-around, total-some}
+use Rattle.wire.specs.Bytes.{byteAt, wordAt, part}
 use Rattle.wire.proofs.Parts.{part-length, part-byte, part-add}
 use Rattle.wire.proofs.Writes.{Wrote, part-below, part-above, part-they}
-
--- the parity of a part
-part-oddly : (p : List ℕ) (a n : ℕ) → a + n ≤ length p → oddly (part p a n) ≡ odd n
-unfolding odd
-part-oddly p a n h = oddly-length (part p a n) ∙ rw (part-length p a n h)
 
 -- new bytes written from at, in a part around them: pos is their position in it
 pub part-around : {p q : List ℕ} {at : ℕ} {new : List ℕ} → Wrote p q at new → (a n pos : ℕ) → at ≡ a + pos → at + length new ≤ a + n → a + n ≤ length p
@@ -33,10 +28,9 @@ part-around {p} {q} {at} {new} w a n pos e h k =
     ∙ ap (λ l. part r a pos ++ l) (ap (λ b. part r b (m + y)) (sym e) ∙ part-add r at m y) in
     let is : part q a n ≡ x ++ (new ++ z) =
     three q ∙ ap₂ _++_ (part-below w a pos (omega arith) (omega arith)) (ap₂ _++_ (part-they w (omega arith)) (part-above w (at + m) y (omega arith) (omega arith))) in
-    let o = part-oddly p a pos (omega arith) in
-    let c : total (part q a n) + weigh (oddly x) (part p at m) ≡ total (part p a n) + weigh (oddly x) new =
+    let c : total (part q a n) + weigh (odd (length x)) (part p at m) ≡ total (part p a n) + weigh (odd (length x)) new =
     rw (is, three p) (weigh-around x (part p at m) new z (sym (part-length p at m (omega arith)))) in
-    rw o at c
+    rw (part-length p a pos (omega arith)) at c
 
 -- a word at an even position counts as it is read
 pub word-weigh : (q : List ℕ) (f pos : ℕ) → pos % 2 ≡ 0 → f + 2 ≤ length q → weigh (odd pos) (part q f 2) ≡ wordAt q f

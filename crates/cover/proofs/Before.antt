@@ -6,10 +6,9 @@ use mathlib.Core.List.{List}
 use mathlib.Core.Bool.{true, false}
 use lib.ListN.{length}
 use Rattle.verdicts.proofs.Tests.{by-cases}
-use Rattle.sums.specs.Total.{weigh, oddly, total}
+use Rattle.sums.specs.Total.{odd, weigh, total}
 use Rattle.sums.specs.Fold.{fold}
-use Rattle.sums.specs.Partials.{xor}
-use Rattle.sums.proofs.Totals.{oddly-append, oddly-length}
+use Rattle.sums.proofs.Totals.{even-append}
 use Rattle.sums.proofs.Joins.{join-even}
 use Rattle.wire.specs.Bytes.{part}
 use Rattle.wire.specs.Outer.{four, familyOf, protocolOf, addressesAt, addressesLength}
@@ -28,22 +27,22 @@ unfolding weigh
 rest-total Four n size = omega arith
 rest-total Six n size = omega arith
 
-pub rest-even : (family : Family) (n size : ℕ) → oddly (restIn family n size) ≡ false
-unfolding oddly
+pub rest-even : (family : Family) (n size : ℕ) → odd (length (restIn family n size)) ≡ false
+unfolding odd
 rest-even Four n size = refl
 rest-even Six n size = refl
 
 -- so do the addresses, in a packet that has them
-pub addresses-even : (p q : List ℕ) → OuterFacts p → length q ≡ length p → oddly (part q (addressesAt p) (addressesLength p)) ≡ false
+pub addresses-even : (p q : List ℕ) → OuterFacts p → length q ≡ length p → odd (length (part q (addressesAt p) (addressesLength p))) ≡ false
+unfolding odd
 addresses-even p q k e =
-    oddly-length (part q (addressesAt p) (addressesLength p))
-    ∙ rw (part-length q (addressesAt p) (addressesLength p) (omega arith)) (by-cases (four p) (λ f. rw f) (λ f. rw f))
+    rw (part-length q (addressesAt p) (addressesLength p) (omega arith)) (by-cases (four p) (λ f. rw f) (λ f. rw f))
 
-pub before-even : (family : Family) (n : ℕ) (addresses : List ℕ) (size : ℕ) → oddly addresses ≡ false → oddly (beforeIn family n addresses size) ≡ false
-unfolding oddly
+pub before-even : (family : Family) (n : ℕ) (addresses : List ℕ) (size : ℕ) → odd (length addresses) ≡ false → odd (length (beforeIn family n addresses size)) ≡ false
+unfolding odd
 before-even family n addresses size e =
     by-cases (planIn family n .pseudo)
-    (λ t. simp t (oddly-append addresses (restIn family n size) ∙ ap₂ xor e (rest-even family n size)))
+    (λ t. simp t (even-append addresses (restIn family n size) e (rest-even family n size)))
     (λ t. simp t)
 
 -- ---- its fold

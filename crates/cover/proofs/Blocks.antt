@@ -7,8 +7,8 @@ use mathlib.Core.List.{List, [], _∷_}
 use mathlib.Core.Bool.{true}
 use lib.ListN.{length}
 use Rattle.verdicts.proofs.Tests.{by-cases}
-use Rattle.sums.specs.Total.{weigh, total}
-use Rattle.wire.specs.Bytes.{wordAt, part, odd}
+use Rattle.sums.specs.Total.{odd, weigh, total}
+use Rattle.wire.specs.Bytes.{wordAt, part}
 use Rattle.wire.specs.Outer.{headerEnd, headerField, addressesAt, addressesLength}
 use Rattle.wire.specs.Inner.{startOf, endOf, lengthOf, fieldAt, pseudo}
 use Rattle.wire.proofs.Facts.{OuterFacts, Facts}

@@ -11,11 +11,11 @@ use borrow.Author.Tests.{lt-ltb, le-ltb}
 use Rattle.verdicts.specs.declared.Verdict.{Verdict}
 use Rattle.verdicts.specs.declared.Verdict.the-variants.{Good, Spent}
 use Rattle.verdicts.proofs.Tests.{by-cases}
-use Rattle.sums.specs.Total.{weigh}
+use Rattle.sums.specs.Total.{odd, weigh}
 use Rattle.sums.specs.Fold.{fold}
 use Rattle.sums.specs.Update.{updated}
 use Rattle.sums.proofs.Folds.{fold-fixed}
-use Rattle.wire.specs.Bytes.{byteAt, wordAt, part, put, putWord, odd}
+use Rattle.wire.specs.Bytes.{byteAt, wordAt, part, put, putWord}
 use Rattle.wire.specs.Outer.{addressesAt, familyOf, four, headerField}
 use Rattle.wire.specs.Inner.{Holds, startOf}
 use Rattle.wire.specs.declared.Message.{Message}

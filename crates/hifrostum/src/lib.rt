@@ -1,11 +1,16 @@
 // What a host program in C calls: include/hifrostum.h has the same functions in C's words.
 //
 // A slice is a pointer and a length. Any bytes may be lent, and every call ends and answers by the numbers of the
-// rules paper. A refused call changes no lent byte, and sets to 0 what it hands back through count, fold and odd.
+// rules paper. A refused call changes no lent byte, and sets to 0 what it hands back through count, fold and length,
+// but for a join, which hands back the left sum.
+use sums::Field;
+use sums::Fold;
+use sums::Partial;
 ghost use mathlib.Core.Path.{_≡_};
 ghost use Rattle.verdicts.specs.Numbers.{numberOf};
 ghost use Rattle.sums.specs.Total.{total};
 ghost use Rattle.sums.specs.Fold.{fold as Fold·fold, fieldOf};
+ghost use Rattle.sums.specs.Partials.{partial, joinOf};
 ghost use Rattle.chain.specs.Chain.{chainOf};
 ghost use Rattle.sums.specs.Update.{updated};
 ghost use Rattle.judge.specs.Judge.{judgeOf};
@@ -13,7 +18,6 @@ ghost use Rattle.mend.specs.Mend.{mendOf};
 ghost use Rattle.kept.specs.Edits.{lifetimeOf, addressOf, stretchOf};
 ghost use Rattle.capture.specs.Judged.{judgedOf};
 ghost use Rattle.hifrostum.specs.Answers.{numbered, counted, summed};
-ghost use Rattle.hifrostum.specs.Answers.{bit as Answers·bit};
 
 // The verdict on a packet.
 #[no_mangle]
@@ -76,14 +80,41 @@ pub extern "C" fn hifrostum_sum_chain(
     buffer: &[u8],
     pieces: &[u32],
     fold: &mut u16,
-    odd: &mut u8,
+    length: &mut u64,
 ) -> u8
-    ensures { λ r. ⌜ (r, (now (fold .exit), now (odd .exit))) ≡ summed (chainOf (now (buffer .entry)) (now (pieces .entry))) ⌝ }
+    ensures { λ r. ⌜ (r, (now (fold .exit), now (length .exit))) ≡ summed (chainOf (now (buffer .entry)) (now (pieces .entry))) ⌝ }
 {
     let chained = chain::chain(buffer, pieces);
     let v = chained.verdict;
     *fold = chained.sum.fold.0;
-    *odd = bit(chained.sum.odd);
+    *length = chained.sum.length;
+    verdicts::number(v)
+}
+
+// The partial sum of A's bytes followed by B's, or A's where the lengths together pass the 64-bit range.
+#[no_mangle]
+pub extern "C" fn hifrostum_join(
+    fold_a: u16,
+    length_a: u64,
+    fold_b: u16,
+    length_b: u64,
+    fold: &mut u16,
+    length: &mut u64,
+) -> u8
+    ensures { λ r. ⌜ (r, (now (fold .exit), now (length .exit))) ≡ summed (joinOf (partial «fold_a» «length_a») (partial «fold_b» «length_b»)) ⌝ }
+{
+    let a = Partial {
+        fold: Fold(fold_a),
+        length: length_a,
+    };
+    let b = Partial {
+        fold: Fold(fold_b),
+        length: length_b,
+    };
+    let joined = sums::join(a, b);
+    let v = joined.verdict;
+    *fold = joined.sum.fold.0;
+    *length = joined.sum.length;
     verdicts::number(v)
 }
 
@@ -102,14 +133,8 @@ pub extern "C" fn hifrostum_field(bytes: &[u8]) -> u16
 pub extern "C" fn hifrostum_update(field: u16, old_fold: u16, new_fold: u16) -> u16
     ensures { λ r. ⌜ r ≡ updated field «old_fold» «new_fold» ⌝ }
 {
-    let old = sums::Fold(old_fold);
-    let new = sums::Fold(new_fold);
-    let after = sums::update(sums::Field(field), old, new);
+    let old = Fold(old_fold);
+    let new = Fold(new_fold);
+    let after = sums::update(Field(field), old, new);
     after.0
-}
-
-fn bit(odd: bool) -> u8
-    ensures { λ r. ⌜ r ≡ Answers·bit odd ⌝ }
-{
-    if odd { 1 } else { 0 }
 }

@@ -5,8 +5,8 @@ use native.Mathlib.Omega.{arith}
 use mathlib.Core.List.{List}
 use mathlib.Core.Bool.{false}
 use lib.ListN.{length}
-use Rattle.sums.specs.Total.{weigh}
-use Rattle.wire.specs.Bytes.{wordAt, part, putWord, odd, Bytes}
+use Rattle.sums.specs.Total.{odd, weigh}
+use Rattle.wire.specs.Bytes.{wordAt, part, putWord, Bytes}
 use Rattle.wire.specs.Outer.{headerField}
 use Rattle.wire.specs.Inner.{fieldAt, silentOf, udp}
 use Rattle.wire.proofs.Facts.{OuterFacts, Facts}

@@ -3,10 +3,10 @@ use Prim.Native.Nat.{ℕ}
 use mathlib.Core.Path.{_≡_, refl}
 use mathlib.Core.List.{List, [], _∷_}
 use Rattle.verdicts.specs.declared.Verdict.the-variants.{Good, MessageSum, Blank}
-use Rattle.sums.specs.Total.{weigh}
+use Rattle.sums.specs.Total.{odd, weigh}
 use Rattle.sums.specs.Fold.{fold, passes}
 use Rattle.sums.specs.Update.{updated}
-use Rattle.wire.specs.Bytes.{put, odd}
+use Rattle.wire.specs.Bytes.{put}
 use Rattle.wire.specs.Outer.{familyOf, headerEnd, declaredEnd, fragmentOf, outerRules, protocolOf}
 use Rattle.wire.specs.Table.{rowOf}
 use Rattle.wire.specs.Messages.{shapeRules}

@@ -9,9 +9,9 @@ use lib.ListN.{length}
 use Rattle.verdicts.specs.Rules.{clear}
 use Rattle.verdicts.proofs.Tests.{by-cases}
 use Rattle.verdicts.proofs.Rules.{clear-both}
-use Rattle.sums.specs.Total.{weigh}
+use Rattle.sums.specs.Total.{odd, weigh}
 use Rattle.sums.specs.Update.{updated}
-use Rattle.wire.specs.Bytes.{byteAt, wordAt, part, put, putWord, odd, Bytes}
+use Rattle.wire.specs.Bytes.{byteAt, wordAt, part, put, putWord, Bytes}
 use Rattle.wire.specs.Outer.{addressesAt, four, headerEnd, headerField, lifetimeAt}
 use Rattle.wire.specs.Inner.{fieldAt, silentOf, udp, wholeRules}
 use Rattle.wire.proofs.Facts.{Facts}

@@ -3,10 +3,10 @@ use Prim.Native.Nat.{ℕ}
 use mathlib.Core.List.{List}
 use lib.ListN.{length}
 use Rattle.verdicts.specs.Choice.{if_then_else_}
-use Rattle.sums.specs.Total.{weigh}
+use Rattle.sums.specs.Total.{odd, weigh}
 use Rattle.sums.specs.Fold.{fold}
 use Rattle.sums.specs.Update.{updated}
-use Rattle.wire.specs.Bytes.{wordAt, part, putWord, odd}
+use Rattle.wire.specs.Bytes.{wordAt, part, putWord}
 use Rattle.wire.specs.Outer.{four, headerField}
 use Rattle.wire.specs.Inner.{fieldAt, udp, silentOf}
 use Rattle.mend.specs.Fresh.{sent}

@@ -5,10 +5,10 @@ use mathlib.Core.Bool.{false}
 use mathlib.Core.List.{List, [], _∷_, _++_}
 use native.Mathlib.Omega.{arith}
 use lib.ListN.{length}
-use Rattle.sums.specs.Total.{weigh, total, oddly}
+use Rattle.sums.specs.Total.{odd, weigh, total}
 use Rattle.sums.specs.Fold.{fold, fieldOf}
 use Rattle.sums.proofs.Folds.{fold-both}
-use Rattle.sums.proofs.Totals.{weigh-even, oddly-length}
+use Rattle.sums.proofs.Totals.{weigh-even}
 use Rattle.sums.proofs.Joins.{join-even}
 use Rattle.wire.specs.Bytes.{part, putWord}
 use Rattle.wire.specs.Outer.{familyOf, protocolOf, headerEnd, addressesAt, addressesLength, headerField}
@@ -28,7 +28,7 @@ module _ (p : List ℕ) (a f e : ℕ) (low : a ≤ f) (even : (f - a) % 2 ≡ 0)
   w = put-wrote p f (0 ∷ 0 ∷ []) (omega arith)
 
   without-total : total (part (putWord p f 0) a (e - a)) ≡ total (part p a (f - a)) + total (part p (f + 2) (e - (f + 2)))
-  unfolding weigh
+  unfolding odd weigh
   without-total =
       let q = putWord p f 0 in
       let x = part p a (f - a) in
@@ -36,7 +36,7 @@ module _ (p : List ℕ) (a f e : ℕ) (low : a ≤ f) (even : (f - a) % 2 ≡ 0)
       let n : f + 2 - f ≡ 2 = omega arith in
       let word : part q f (f + 2 - f) ≡ 0 ∷ 0 ∷ [] = rw n (part-they w (omega arith)) in
       let behind : part q f (e - f) ≡ 0 ∷ 0 ∷ y = part-cut q f (f + 2) e (omega arith) high ∙ ap₂ _++_ word (part-above w (f + 2) (e - (f + 2)) (omega arith) (omega arith)) in
-      let o : oddly x ≡ false = oddly-length x ∙ rw (part-length p a (f - a) (omega arith), even) in
+      let o : odd (length x) ≡ false = rw (part-length p a (f - a) (omega arith), even) in
       ap total (part-cut q a f e low (omega arith) ∙ ap₂ _++_ (part-below w a (f - a) (omega arith) (omega arith)) behind)
       ∙ weigh-even false x (0 ∷ 0 ∷ y) o ∙ omega arith
 

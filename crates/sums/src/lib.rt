@@ -2,14 +2,15 @@
 //
 // A Fold is what 16-bit addition with end-around carry gives of some bytes, and a Field is its complement, which
 // packets carry: two types, so that neither is stored where the other belongs. Every public function takes any
-// input, and its promise is one equation.
+// input, but for `join_within`, and its promise is one equation.
+use verdicts::Verdict;
 ghost use mathlib.Core.Path.{_≡_};
 ghost use Prim.Native.Nat.{_+_, _≤_, _<_};
 ghost use lib.ListN.{length};
-ghost use Rattle.sums.specs.Total.{weigh};
+ghost use Rattle.sums.specs.Total.{odd as Total·odd, weigh, total};
 ghost use Rattle.sums.specs.Fold.{fold, fieldOf};
 ghost use Rattle.sums.specs.Fold.{passes as Fold·passes};
-ghost use Rattle.sums.specs.Partials.{partialOf, joined, swapIf};
+ghost use Rattle.sums.specs.Partials.{partialOf, joined, joinOf, longest, swapIf};
 ghost use Rattle.sums.specs.Update.{updated};
 ghost use Rattle.sums.specs.Left.{Left, pairAt};
 
@@ -17,10 +18,16 @@ pub struct Fold(pub u16);
 
 pub struct Field(pub u16);
 
-// A fold, and whether the length of what was summed is odd.
+// A fold, and how many bytes were summed.
 pub struct Partial {
     pub fold: Fold,
-    pub odd: bool,
+    pub length: u64,
+}
+
+// The verdict on joined sums, good or place, and the sum beside it.
+pub struct Joined {
+    pub verdict: Verdict,
+    pub sum: Partial,
 }
 
 // The fold of a total.
@@ -62,14 +69,31 @@ pub fn add(a: Fold, b: Fold) -> Fold
     fold_of(a.0 as u64 + b.0 as u64)
 }
 
-// The partial sum of A's bytes followed by B's.
-pub fn join(a: Partial, b: Partial) -> Partial
+// The partial sum of A's bytes followed by B's, or place and A's where the lengths together pass the 64-bit range.
+pub fn join(a: Partial, b: Partial) -> Joined
+    ensures { λ r. ⌜ r ≡ joinOf a b ⌝ }
+{
+    if 18446744073709551615 - a.length < b.length {
+        return Joined {
+            verdict: Verdict::Place,
+            sum: a,
+        };
+    }
+    Joined {
+        verdict: Verdict::Good,
+        sum: join_within(a, b),
+    }
+}
+
+// The same for sister crates, where the lengths are known to stay within the range.
+pub fn join_within(a: Partial, b: Partial) -> Partial
+    requires { ⌜ a .length + b .length ≤ longest ⌝ }
     ensures { λ r. ⌜ r ≡ joined a b ⌝ }
 {
-    let second = Fold(aligned(a.odd, b.fold.0));
+    let second = Fold(aligned(is_odd(a.length), b.fold.0));
     Partial {
         fold: add(a.fold, second),
-        odd: a.odd != b.odd,
+        length: a.length + b.length,
     }
 }
 
@@ -83,7 +107,10 @@ pub fn sum(bytes: &[u8]) -> Partial
         acc = carry(acc, pair(bytes, i));
         i += 2;
     }
-    last(bytes, i, acc)
+    Partial {
+        fold: last(bytes, i, acc),
+        length: bytes.len() as u64,
+    }
 }
 
 // The fold of a stretch, each byte counted by its position in a block: odd says whether it starts at an odd one.
@@ -99,6 +126,12 @@ fn aligned(odd: bool, f: u16) -> u16
     ensures { λ r. ⌜ r ≡ swapIf odd f ⌝ }
 {
     if odd { f % 256 * 256 + f / 256 } else { f }
+}
+
+fn is_odd(n: u64) -> bool
+    ensures { λ r. ⌜ r ≡ Total·odd n ⌝ }
+{
+    n % 2 == 1
 }
 
 // a + b with the carry added in again, so that the fold is the same and no sum grows too large.
@@ -127,19 +160,13 @@ fn pair(s: &[u8], i: usize) -> u64
 }
 
 // What is left where no two bytes are.
-fn last(bytes: &[u8], i: usize, acc: u64) -> Partial
+fn last(bytes: &[u8], i: usize, acc: u64) -> Fold
     requires { ⌜ (length (now bytes) ≤ i + 1) × Left (now bytes) acc i ⌝ }
-    ensures { λ r. ⌜ r ≡ partialOf (now (bytes .entry)) ⌝ }
+    ensures { λ r. ⌜ r .0 ≡ fold (total (now (bytes .entry))) ⌝ }
 {
     if i < bytes.len() {
-        Partial {
-            fold: fold_of(carry(acc, 256 * wide(bytes[i]))),
-            odd: true,
-        }
+        fold_of(carry(acc, 256 * wide(bytes[i])))
     } else {
-        Partial {
-            fold: fold_of(acc),
-            odd: false,
-        }
+        fold_of(acc)
     }
 }

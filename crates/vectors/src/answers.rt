@@ -1,7 +1,9 @@
 // The answer to each operation.
 use crate::cases::Case;
 use crate::cases::LARGEST;
+use crate::cases::SUM;
 use crate::cases::WIDTH;
+use crate::cases::long;
 use crate::cases::quad;
 use crate::cases::within;
 use crate::operation;
@@ -11,11 +13,12 @@ use capture::judge_capture;
 use lines::State;
 use sums::Field;
 use sums::Fold;
+use sums::Joined;
 use sums::Partial;
 use verdicts::Verdict;
 use verdicts::number;
 ghost use mathlib.Core.Path.{_≡_};
-ghost use Prim.Native.Nat.{_<_, _≤_};
+ghost use Prim.Native.Nat.{_+_, _<_, _≤_};
 ghost use lib.ListN.{length};
 ghost use Rattle.io.specs.Counts.{Counts};
 
@@ -35,7 +38,7 @@ fn answer_on(operation: u8, a: u64, buffer: &mut [u8], second: &[u8]) {
         operation::CAPTURE => captured(buffer, a as usize),
         operation::CHAIN => chained(buffer, second),
         operation::UPDATE => updated(a),
-        operation::JOIN => joined(a),
+        operation::JOIN => joined(second),
         operation::PRINTED => printed(buffer),
         _ => computed(operation, a, buffer),
     }
@@ -104,11 +107,7 @@ fn judged(buffer: &[u8], verdicts: &mut [u8]) {
 fn chained(buffer: &[u8], second: &[u8]) {
     let mut list = [0u32; LARGEST / WIDTH];
     let n = numbers(second, &mut list);
-    let chained = chain::chain(buffer, &list[..n]);
-    let verdict = chained.verdict;
-    let sum = chained.sum;
-    put_verdict(verdict, b" ");
-    put_partial(sum);
+    put_joined(chain::chain(buffer, &list[..n]));
 }
 
 // Turns bytes into 32-bit numbers at a list's start, and answers how many there are.
@@ -124,10 +123,16 @@ fn numbers(bytes: &[u8], list: &mut [u32]) -> usize
     n
 }
 
+fn put_joined(joined: Joined) {
+    let verdict = joined.verdict;
+    let sum = joined.sum;
+    put_verdict(verdict, b" ");
+    put_partial(sum);
+}
+
 fn put_partial(s: Partial) {
     put(s.fold.0 as u64, b" ");
-    let odd = if s.odd { 1 } else { 0 };
-    put(odd, b"\n");
+    put(s.length, b"\n");
 }
 
 // The operations that only read the buffer.
@@ -149,16 +154,20 @@ fn updated(a: u64) {
     put(field.0 as u64, b"\n");
 }
 
-fn joined(a: u64) {
-    let first = Partial {
-        fold: Fold(bits(a, 4294967296)),
-        odd: a / 131072 % 2 == 1,
-    };
-    let then = Partial {
-        fold: Fold(bits(a, 1)),
-        odd: a / 65536 % 2 == 1,
-    };
-    put_partial(sums::join(first, then));
+// The two partial sums in payload two, joined. A case without both is malformed, and doesn't come here.
+fn joined(second: &[u8]) {
+    if 2 * SUM <= second.len() {
+        put_joined(sums::join(partial_at(second, 0), partial_at(second, SUM)));
+    }
+}
+
+fn partial_at(bytes: &[u8], at: usize) -> Partial
+    requires { ⌜ at + 10 ≤ length (now bytes) ⌝ }
+{
+    Partial {
+        fold: Fold(wire::word(bytes, at)),
+        length: long(bytes, at + 2),
+    }
 }
 
 // The 16 bits that begin at a power of two.

@@ -19,8 +19,10 @@ const ONE: usize = 10;
 
 const TWO: usize = 14;
 
-// The size of a 32-bit number.
+// The size of a 32-bit number, and of a partial sum: a 16-bit fold and a 64-bit length.
 pub const WIDTH: usize = 4;
+
+pub const SUM: usize = 10;
 
 // The buffer is payload one, or what the case before left, or the last one given.
 const GIVEN: u8 = 0;
@@ -70,7 +72,7 @@ fn case_of(bytes: &[u8; HEAD]) -> Case {
     Case {
         operation: bytes[0],
         source: bytes[1],
-        number: quad(bytes, NUMBER) * 4294967296 + quad(bytes, NUMBER + WIDTH),
+        number: long(bytes, NUMBER),
         one: quad(bytes, ONE) as usize,
         two: quad(bytes, TWO) as usize,
     }
@@ -95,6 +97,9 @@ fn malformed(case: Case) -> bool {
     if case.operation == operation::CHAIN {
         return case.two % WIDTH != 0;
     }
+    if case.operation == operation::JOIN {
+        return case.two != 2 * SUM;
+    }
     false
 }
 
@@ -112,6 +117,13 @@ pub fn quad(bytes: &[u8], at: usize) -> u64
     let high = wide(bytes[at]) * 256 + wide(bytes[at + 1]);
     let low = wide(bytes[at + 2]) * 256 + wide(bytes[at + 3]);
     high * 65536 + low
+}
+
+// The 64-bit number at a place.
+pub fn long(bytes: &[u8], at: usize) -> u64
+    requires { ⌜ at + 8 ≤ length (now bytes) ⌝ }
+{
+    quad(bytes, at) * 4294967296 + quad(bytes, at + WIDTH)
 }
 
 // Reads payload one, which is ignored unless it is a buffer, and payload two.

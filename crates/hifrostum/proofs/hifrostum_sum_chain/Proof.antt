@@ -1,5 +1,5 @@
--- The verdict's number, the fold, and the parity as a number.
-use mathlib.Core.Path.{_∙_, ap, ap₂}
+-- The verdict's number, the fold, and the length.
+use mathlib.Core.Path.{_∙_, ap}
 use Prim.Native.Nat.{ℕ}
 use Rattle.hifrostum.specs.Answers.{summed}
 use borrow.Author.Needs.{needs}
@@ -8,14 +8,8 @@ use Rattle.hifrostum.proofs.hifrostum_sum_chain.Tie as tie
 
 returns : tie.Need-returns
 returns c =
-    let s = c .before .before .chain in
-    ap₂ (λ (n o : ℕ). (n, (s .result .sum .fold .0, o))) (c .number .ensures) (c .before .bit .ensures) ∙ ap summed (s .ensures)
+    let s = c .before .chain in
+    ap (λ (n : ℕ). (n, (s .result .sum .fold .0, s .result .sum .length))) (c .number .ensures) ∙ ap summed (s .ensures)
 
 pub hifrostum-sum-chain-spec : {M : Type 1} → statement M
-hifrostum-sum-chain-spec =
-    tie.close
-    (tie.spec
-    (λ c κs. search needs)
-    (λ c κs. search needs)
-    (λ c κs. search needs)
-    returns)
+hifrostum-sum-chain-spec = tie.close (tie.spec (λ c κs. search needs) (λ c κs. search needs) returns)
