@@ -3,3 +3,4 @@ pub mod Before
 pub mod Around
 pub mod Totals
 pub mod Blocks
+pub mod Lengths

@@ -73,7 +73,7 @@ pub fn add(a: Fold, b: Fold) -> Fold
 pub fn join(a: Partial, b: Partial) -> Joined
     ensures { λ r. ⌜ r ≡ joinOf a b ⌝ }
 {
-    if 18446744073709551615 - a.length < b.length {
+    if u64::MAX - a.length < b.length {
         return Joined {
             verdict: Verdict::Place,
             sum: a,
@@ -138,10 +138,10 @@ fn is_odd(n: u64) -> bool
 fn carry(a: u64, b: u64) -> u64
     ensures { λ r. ⌜ fold r ≡ fold (a + b) ⌝ }
 {
-    if a <= 18446744073709551615 - b {
+    if a <= u64::MAX - b {
         a + b
     } else {
-        a - (18446744073709551615 - b)
+        a - (u64::MAX - b)
     }
 }
 
