@@ -1,3 +1,4 @@
 -- Laws of chains.
 pub mod Lists
+pub mod Along
 pub mod Chains
