@@ -5,7 +5,7 @@ use crate::edit::{lower_lifetime, set_address, set_stretch};
 use crate::judge::judge;
 use crate::mend::mend;
 use crate::sums::{self, field, fold, partial, total, total_at, Field, Fold, Partial};
-use crate::verdict::{Verdict, GOOD};
+use crate::verdict::Verdict;
 use std::io::{self, Read};
 
 pub const JUDGE: u8 = 0;
@@ -40,6 +40,8 @@ pub const LARGEST: usize = 131_072;
 pub const HEAD: usize = 18;
 /// The size of a number in a chain's list.
 pub const NUMBER: usize = 4;
+/// The size of a partial sum in the payload of a join: fold and length.
+pub const SUM: usize = 10;
 pub const FILL: u8 = 0xA5;
 pub const BAD_CASE: &str = "bad case\n";
 
@@ -82,7 +84,8 @@ impl Case {
         let unknown = operation > PRINTED || source > AGAIN;
         let too_large = size_one > LARGEST || size_two > LARGEST || (operation == CAPTURE && number > LARGEST as u64);
         let uneven = operation == CHAIN && size_two % NUMBER != 0;
-        if unknown || too_large || uneven {
+        let not_two = operation == JOIN && size_two != 2 * SUM;
+        if unknown || too_large || uneven || not_two {
             return Ok(Next::Bad);
         }
         let (one, two) = (take(input, size_one)?, take(input, size_two)?);
@@ -103,6 +106,12 @@ fn take(input: &mut impl Read, size: usize) -> io::Result<Vec<u8>> {
 /// A big-endian whole number.
 fn whole(bytes: &[u8]) -> u64 {
     bytes.iter().fold(0, |number, byte| number * 256 + u64::from(*byte))
+}
+
+/// The two partial sums in the payload of a join.
+pub fn operands(two: &[u8]) -> (Partial, Partial) {
+    let sum = |bytes: &[u8]| Partial { fold: Fold(whole(&bytes[..2]) as u16), length: whole(&bytes[2..]) };
+    (sum(&two[..SUM]), sum(&two[SUM..]))
 }
 
 /// A digest of all bytes and their order.
@@ -143,13 +152,12 @@ impl Desk {
             CAPTURE => self.capture(number as usize),
             CHAIN => self.chain(two),
             PARTIAL => summed(partial(&self.buffer)),
-            FOLD_AT => format!("{}\n", fold(total_at(number as usize, &self.buffer)).0),
+            FOLD_AT => format!("{}\n", fold(total_at(number.into(), &self.buffer)).0),
             FIELD => format!("{}\n", field(fold(total(&self.buffer))).0),
             UPDATE => format!("{}\n", sums::update(Field(bits(32)), Fold(bits(16)), Fold(bits(0))).0),
             JOIN => {
-                let a = Partial { fold: Fold(bits(32)), odd: bits(17) & 1 == 1 };
-                let b = Partial { fold: Fold(bits(0)), odd: bits(16) & 1 == 1 };
-                summed(sums::join(a, b))
+                let (a, b) = operands(two);
+                judged(sums::join(a, b))
             }
             _ => printed(&self.buffer),
         }
@@ -168,13 +176,14 @@ impl Desk {
 
     fn chain(&self, list: &[u8]) -> String {
         let list: Vec<u32> = list.chunks(NUMBER).map(|number| whole(number) as u32).collect();
-        match sums::chain(&self.buffer, &list) {
-            Ok(sum) => format!("{GOOD} {}", summed(sum)),
-            Err(refusal) => format!("{refusal} 0 0\n"),
-        }
+        judged(sums::chain(&self.buffer, &list))
     }
 }
 
 fn summed(sum: Partial) -> String {
-    format!("{} {}\n", sum.fold.0, u8::from(sum.odd))
+    format!("{} {}\n", sum.fold.0, sum.length)
+}
+
+fn judged((verdict, sum): (Verdict, Partial)) -> String {
+    format!("{verdict} {}", summed(sum))
 }

@@ -70,6 +70,8 @@ pub fn stored(seed: u64) -> Result<(Vec<u8>, u64), String> {
     maker.packets();
     maker.corners();
     maker.captures();
+    maker.joins();
+    maker.long_chains();
     if let Some(cover) = &maker.cover {
         cover.check()?;
     }
@@ -84,6 +86,7 @@ pub fn fuzz(seed: u64, count: u64, out: &mut impl Write) -> io::Result<()> {
             1 => maker.any_corner(),
             2 => maker.any_blank(),
             3..=7 => maker.any_sums(),
+            8 if maker.random.once_in(10) => maker.any_long_chain(),
             8..=12 => maker.any_chain(),
             13..=17 => maker.any_capture(),
             18..=22 => maker.any_rubbish(),

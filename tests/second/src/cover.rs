@@ -33,7 +33,7 @@ impl Cover {
             CAPTURE | PRINTED => self.note_capture(case, before, answer),
             CHAIN => self.note_chain(case, before, answer),
             UPDATE => self.reach(format!("update to {}", answer.trim_end())),
-            JOIN => self.reach(format!("join of odd {:02b}", case.number >> 16 & 3)),
+            JOIN => self.note_join(case, answer),
             _ => self.reach(format!("{} of {} bytes", OPERATIONS[case.operation as usize], before.len())),
         }
     }
@@ -154,7 +154,6 @@ impl Cover {
         if verdict != GOOD || length == 0 {
             return;
         }
-        let parity = |number: u64| if number % 2 == 0 { "even" } else { "odd" };
         self.reach(format!("{kind}: stretch at {} place, {} length", parity(place), parity(length as u64)));
         let start = before.header_length() + before.body_offset() + place as usize;
         if before.bytes[start..].starts_with(&case.two) {
@@ -202,11 +201,13 @@ impl Cover {
             case.two.chunks(4).map(|n| u32::from_be_bytes([n[0], n[1], n[2], n[3]]).into()).collect();
         let pieces: Vec<(u64, u64)> = numbers.chunks_exact(2).map(|piece| (piece[0], piece[1])).collect();
         let size = buffer.len() as u64;
+        let outside = |(offset, length): &(u64, u64)| offset + length > size;
+        let over_and_over = |odd: u64| pieces.len() >= 1000 && pieces.iter().all(|p| *p == pieces[0] && p.1 % 2 == odd);
         let found = [
             ("empty list", numbers.is_empty()),
             ("odd list", numbers.len() % 2 == 1),
-            ("odd list, a piece outside", numbers.len() % 2 == 1 && pieces.iter().any(|(o, l)| o + l > size)),
-            ("a piece outside", pieces.iter().any(|(o, l)| o + l > size)),
+            ("odd list, a piece outside", numbers.len() % 2 == 1 && pieces.iter().any(outside)),
+            ("a piece outside", pieces.iter().any(outside)),
             ("passes 32 bits", pieces.iter().any(|(o, l)| o + l > u32::MAX.into())),
             ("empty at the end", pieces.contains(&(size, 0))),
             ("empty past the end", pieces.contains(&(size + 1, 0))),
@@ -214,12 +215,46 @@ impl Cover {
             ("odd then odd", pieces.windows(2).any(|two| two[0].1 % 2 == 1 && two[1].1 % 2 == 1)),
             ("overlap", pieces.windows(2).any(|two| two[0].0 < two[1].0 && two[1].0 < two[0].0 + two[0].1)),
             ("repeat", pieces.windows(2).any(|two| two[0].1 > 0 && two[0] == two[1])),
-            ("good, then outside", pieces.len() > 1 && pieces[0].0 + pieces[0].1 <= size && answer.starts_with("10")),
+            ("good, then outside", pieces.len() > 1 && !outside(&pieces[0]) && answer.starts_with("10")),
+            ("an odd piece a thousand times", over_and_over(1)),
+            ("an even piece a thousand times", over_and_over(0) && pieces[0].1 > 0),
+            ("the first outside after a thousand", pieces.iter().position(outside) >= Some(1000)),
+            ("odd list of over two thousand", numbers.len() > 2000 && numbers.len() % 2 == 1),
+            ("over 65,535 bytes", pieces.iter().map(|piece| piece.1).sum::<u64>() > 65_535),
         ];
         for (name, _) in found.into_iter().filter(|(_, holds)| *holds) {
             let verdict = answer.split(' ').next().unwrap_or("");
             self.reach(format!("chain: {name}: {verdict}"));
         }
+    }
+
+    fn note_join(&mut self, case: &Case, answer: &str) {
+        let (a, b) = operands(&case.two);
+        let verdict = answer.split(' ').next().unwrap_or("");
+        let lengths = match u128::from(a.length) + u128::from(b.length) {
+            together if together < LARGEST_LENGTH => "under 2^64 - 1",
+            LARGEST_LENGTH => "2^64 - 1",
+            together if together == LARGEST_LENGTH + 1 => "2^64",
+            _ => "over 2^64",
+        };
+        self.verdicts.insert(format!("join, lengths together {lengths}: {verdict}"));
+        self.reach(format!("join, {} before {}: {verdict}", parity(a.length), parity(b.length)));
+        for (name, sum) in [("first", a), ("second", b)] {
+            if sum.length == 0 && sum.fold.0 != 0 {
+                self.reach(format!("join, the {name} of length 0 with a fold: {verdict}"));
+            }
+        }
+    }
+}
+
+/// The largest length of a partial sum.
+const LARGEST_LENGTH: u128 = u64::MAX as u128;
+
+fn parity(number: u64) -> &'static str {
+    if number % 2 == 0 {
+        "even"
+    } else {
+        "odd"
     }
 }
 
@@ -325,6 +360,8 @@ fn wanted_verdicts() -> BTreeSet<String> {
     }
     wanted.extend([GOOD, MARK, EDITION, RECORD, ROOM].map(|number| format!("judge capture: {number}")));
     wanted.extend([GOOD, PLACE].map(|number| format!("chain: {number}")));
+    let together = [("under 2^64 - 1", GOOD), ("2^64 - 1", GOOD), ("2^64", PLACE), ("over 2^64", PLACE)];
+    wanted.extend(together.map(|(lengths, number)| format!("join, lengths together {lengths}: {number}")));
     wanted
 }
 
@@ -461,10 +498,25 @@ fn wanted_captures() -> Vec<String> {
 }
 
 fn wanted_sums() -> Vec<String> {
-    let mut wanted: Vec<String> = (0..4).map(|odd| format!("join of odd {odd:02b}")).collect();
-    for good in ["empty list", "empty at the end", "all of it", "odd then odd", "overlap", "repeat"] {
-        wanted.push(format!("chain: {good}: {GOOD}"));
+    let mut wanted = Vec::new();
+    for verdict in [GOOD, PLACE] {
+        for (a, b) in [("even", "even"), ("even", "odd"), ("odd", "even"), ("odd", "odd")] {
+            wanted.push(format!("join, {a} before {b}: {verdict}"));
+        }
     }
+    wanted.extend(["first", "second"].map(|name| format!("join, the {name} of length 0 with a fold: {GOOD}")));
+    let good = [
+        "empty list",
+        "empty at the end",
+        "all of it",
+        "odd then odd",
+        "overlap",
+        "repeat",
+        "an odd piece a thousand times",
+        "an even piece a thousand times",
+        "over 65,535 bytes",
+    ];
+    wanted.extend(good.map(|name| format!("chain: {name}: {GOOD}")));
     let refused = [
         "odd list",
         "odd list, a piece outside",
@@ -472,6 +524,8 @@ fn wanted_sums() -> Vec<String> {
         "passes 32 bits",
         "empty past the end",
         "good, then outside",
+        "the first outside after a thousand",
+        "odd list of over two thousand",
     ];
     wanted.extend(refused.map(|name| format!("chain: {name}: {PLACE}")));
     wanted

@@ -48,7 +48,8 @@ fn zeros_but_field(message: &[u8]) -> bool {
 
 /// The field after a stretch, whose first byte has this position in the covered block, went from `old` to `new`.
 fn updated(field: Field, position: usize, old: &[u8], new: &[u8]) -> Field {
-    update(field, fold(total_at(position, old)), fold(total_at(position, new)))
+    let fold_at = |bytes| fold(total_at(position as u128, bytes));
+    update(field, fold_at(old), fold_at(new))
 }
 
 /// Updates the IPv4 header field for a stretch of the header; IPv6 has none.

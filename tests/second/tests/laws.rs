@@ -33,26 +33,133 @@ fn any_edit(packet: &mut [u8], family: u8, random: &mut Random) -> u8 {
     }
 }
 
+/// Random places that cut a string, in order.
+fn any_cuts(length: usize, random: &mut Random) -> Vec<usize> {
+    let mut cuts: Vec<usize> = (0..random.between(0, 5)).map(|_| random.between(0, length)).collect();
+    cuts.extend([0, length]);
+    cuts.sort_unstable();
+    cuts
+}
+
 #[test]
 fn joined_partial_sums_are_those_of_the_joined_string() {
     let mut random = Random(1);
-    for length in 0..200 {
+    for length in 0..500 {
         let bytes = random.contents(length);
-        let (a, b) = bytes.split_at(random.between(0, length));
-        assert_eq!(join(partial(a), partial(b)), partial(&bytes));
-        let list = [0, a.len() as u32, a.len() as u32, b.len() as u32];
-        assert_eq!(chain(&bytes, &list), Ok(partial(&bytes)));
+        let (mut joined, mut list) = (NOTHING, Vec::new());
+        for cut in any_cuts(length, &mut random).windows(2) {
+            let so_far = partial(&bytes[..cut[1]]);
+            assert_eq!(join(joined, partial(&bytes[cut[0]..cut[1]])), (0, so_far));
+            joined = so_far;
+            list.extend([cut[0] as u32, (cut[1] - cut[0]) as u32]);
+        }
+        assert_eq!(chain(&bytes, &list), (0, partial(&bytes)));
+    }
+}
+
+#[test]
+fn a_chain_has_the_sum_of_its_pieces_written_one_after_the_other() {
+    let mut random = Random(10);
+    for _ in 0..500 {
+        let bytes = random.contents(60);
+        let (mut list, mut written) = (Vec::new(), Vec::new());
+        for _ in 0..random.between(0, 9) {
+            let offset = random.between(0, 60);
+            let length = random.between(0, 60 - offset);
+            list.extend([offset as u32, length as u32]);
+            written.extend_from_slice(&bytes[offset..offset + length]);
+        }
+        let times = random.pick(&[1, 2, 3, 300]);
+        assert_eq!(chain(&bytes, &list.repeat(times)), (0, partial(&written.repeat(times))));
     }
 }
 
 #[test]
 fn chains_are_refused_whole() {
     let bytes = [1, 2, 3];
-    assert_eq!(chain(&bytes, &[]), Ok(Partial { fold: Fold(0), odd: false }));
-    assert!(chain(&bytes, &[3, 0]).is_ok());
+    assert_eq!(chain(&bytes, &[]), (0, NOTHING));
+    assert_eq!(chain(&bytes, &[3, 0]), (0, NOTHING));
     for list in [&[0][..], &[4, 0], &[0, 4], &[u32::MAX, 1], &[u32::MAX, 2], &[1, u32::MAX], &[0, 3, 4, 0]] {
-        assert_eq!(chain(&bytes, list), Err(10));
+        assert_eq!(chain(&bytes, list), (10, NOTHING));
     }
+}
+
+/// No list in a file is long enough to pass the range, so the rule for chains and joins is tried on numbers alone.
+#[test]
+fn joined_lengths_stay_within_64_bits() {
+    let (largest, half) = (u64::MAX, 1 << 63);
+    for lengths in [&[][..], &[3, 5], &[largest], &[largest, 0], &[0, largest], &[half, half - 1], &[largest - 2, 1, 1]]
+    {
+        assert_eq!(joined_length(lengths.iter().copied()), Some(lengths.iter().sum()));
+    }
+    for lengths in [&[largest, 1][..], &[1, largest], &[half, half], &[largest - 1, 1, 1], &[largest, 0, 1], &[half; 4]]
+    {
+        assert_eq!(joined_length(lengths.iter().copied()), None);
+    }
+}
+
+const FOLDS: [u16; 10] = [0, 1, 2, 0xFF, 0x100, 0x1234, 0x7FFF, 0xFF00, 0xFFFE, 0xFFFF];
+
+#[rustfmt::skip]
+const LENGTHS: [u64; 12] = [
+    0, 1, 2, 3, (1 << 32) - 1, 1 << 32, (1 << 63) - 1, 1 << 63, (1 << 63) + 1, u64::MAX - 2, u64::MAX - 1, u64::MAX,
+];
+
+/// Sums of these lengths with each two folds.
+fn each_two(length_a: u64, length_b: u64) -> impl Iterator<Item = (Partial, Partial)> {
+    let sum = |fold, length| Partial { fold: Fold(fold), length };
+    FOLDS.into_iter().flat_map(move |a| FOLDS.into_iter().map(move |b| (sum(a, length_a), sum(b, length_b))))
+}
+
+#[test]
+fn joining_adds_lengths_or_hands_back_the_left_sum() {
+    for (length_a, length_b) in LENGTHS.into_iter().flat_map(|a| LENGTHS.map(|b| (a, b))) {
+        for (a, b) in each_two(length_a, length_b) {
+            match length_a.checked_add(length_b) {
+                Some(length) => assert_eq!((join(a, b).0, join(a, b).1.length), (0, length)),
+                None => assert_eq!(join(a, b), (10, a)),
+            }
+        }
+    }
+}
+
+/// The lengths can't tell the order, and the folds can unless both lengths are even.
+#[test]
+fn both_orders_agree_exactly_where_both_lengths_are_even() {
+    let (one, two) = (partial(&[1]), partial(&[2]));
+    assert_eq!(join(one, two), (0, Partial { fold: Fold(0x0102), length: 2 }));
+    assert_eq!(join(two, one), (0, Partial { fold: Fold(0x0201), length: 2 }));
+    for (length_a, length_b) in LENGTHS.into_iter().flat_map(|a| LENGTHS.map(|b| (a, b))) {
+        let all = |law: fn((u8, Partial), (u8, Partial)) -> bool| {
+            each_two(length_a, length_b).all(|(a, b)| law(join(a, b), join(b, a)))
+        };
+        assert!(all(|one, other| one.0 == other.0));
+        if length_a.checked_add(length_b).is_some() {
+            assert!(all(|one, other| one.1.length == other.1.length));
+            assert_eq!(all(|one, other| one == other), length_a % 2 == 0 && length_b % 2 == 0);
+        }
+    }
+}
+
+/// Three sums come to the same in either grouping, or the range is passed in both.
+#[test]
+fn joining_is_associative() {
+    let mut random = Random(11);
+    let mut passed = 0;
+    for _ in 0..100_000 {
+        let [a, b, c] = [(); 3].map(|()| Partial { fold: Fold(random.pick(&FOLDS)), length: random.pick(&LENGTHS) });
+        let (left, right) = (join(a, b), join(b, c));
+        if joined_length([a.length, b.length, c.length]).is_some() {
+            assert_eq!((left.0, right.0), (0, 0));
+            assert_eq!(join(left.1, c), join(a, right.1));
+            assert_eq!(join(left.1, c).0, 0);
+        } else {
+            passed += 1;
+            assert!(left.0 == 10 || join(left.1, c).0 == 10);
+            assert!(right.0 == 10 || join(a, right.1).0 == 10);
+        }
+    }
+    assert!((1000..99_000).contains(&passed));
 }
 
 #[test]

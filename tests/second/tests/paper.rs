@@ -26,8 +26,10 @@ fn examples_5_to_7_folds_joined_and_exchanged() {
     assert_eq!(fold(total(&EIGHT)), Fold(0xDDF2));
     assert_eq!(field_of(&EIGHT), 0x220D);
     let (three, five) = (partial(&EIGHT[..3]), partial(&EIGHT[3..]));
-    assert_eq!((three.fold, five.fold), (Fold(0xF201), Fold(0xF0EB)));
-    assert_eq!(join(three, five), partial(&EIGHT));
+    assert_eq!(three, Partial { fold: Fold(0xF201), length: 3 });
+    assert_eq!(five, Partial { fold: Fold(0xF0EB), length: 5 });
+    assert_eq!(join(three, five), (0, Partial { fold: Fold(0xDDF2), length: 8 }));
+    assert_eq!(join(three, five).1, partial(&EIGHT));
     let low_first: Vec<u8> = EIGHT.chunks(2).flat_map(|word| [word[1], word[0]]).collect();
     assert_eq!(fold(total(&low_first)), Fold(0xF2DD));
 }

@@ -31,7 +31,7 @@ fn rfc_1071_grouped_sums() {
         assert_eq!((sum >> 16) + (sum & 0xFFFF), halves);
         assert_eq!((fold(halves), fold(sum)), (Fold(folded), Fold(folded)));
     }
-    assert_eq!(join(partial(&BYTES[..4]), partial(&BYTES[4..])).fold, Fold(0xDDF2));
+    assert_eq!(join(partial(&BYTES[..4]), partial(&BYTES[4..])), (0, Partial { fold: Fold(0xDDF2), length: 8 }));
 }
 
 /// Two groups, the second beginning at an odd place: its fold F0EB is exchanged to EBF0.
@@ -42,7 +42,7 @@ fn rfc_1071_two_groups_at_an_odd_place() {
     assert_eq!((first.fold, second.fold), (Fold(0xF201), Fold(0xF0EB)));
     assert_eq!(exchange(second.fold), Fold(0xEBF0));
     assert_eq!(fold(0xF201 + 0xEBF0), Fold(0xDDF2));
-    assert_eq!(join(first, second), Partial { fold: Fold(0xDDF2), odd: false });
+    assert_eq!(join(first, second), (0, Partial { fold: Fold(0xDDF2), length: 8 }));
 }
 
 /// Equation 3 gives 0000. RFC 1141's equation gives FFFF here, which is what we don't do.

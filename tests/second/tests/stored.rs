@@ -40,6 +40,22 @@ fn fuzz_cases_are_well_formed_and_the_same_from_the_same_seed() {
 }
 
 #[test]
+fn fuzz_reaches_long_chains_and_both_answers_of_a_join() {
+    let mut bytes = Vec::new();
+    cases::fuzz(9, 30_000, &mut bytes).unwrap();
+    let (mut input, mut desk, mut long, mut joins) = (&bytes[..], Desk::default(), 0, [0, 0]);
+    while let Next::Case(case) = Case::read(&mut input).unwrap() {
+        desk.lay(&case);
+        match case.operation {
+            6 if case.two.len() > 8000 => long += 1,
+            11 => joins[usize::from(desk.answer(&case).starts_with("10 "))] += 1,
+            _ => {}
+        }
+    }
+    assert!(long >= 1 && joins[0] >= 100 && joins[1] >= 100, "{long} long chains, joins {joins:?}");
+}
+
+#[test]
 fn sources_and_malformed_cases() {
     let case = |operation: u8, source: u8, one: &[u8]| {
         Case { operation, source, number: 0, one: one.to_vec(), two: vec![] }.to_bytes()
@@ -57,8 +73,24 @@ fn sources_and_malformed_cases() {
     assert_eq!(answers(&large), (String::new(), false));
     let chain = |two: &[u8]| Case { operation: 6, source: 0, number: 0, one: vec![0xAB], two: two.to_vec() }.to_bytes();
     assert_eq!(answers(&chain(&[0; 8])), ("0 0 0\n".to_string(), true));
+    assert_eq!(answers(&chain(&[0, 0, 0, 0, 0, 0, 0, 1])), ("0 43776 1\n".to_string(), true));
     assert_eq!(answers(&chain(&[0; 4])), ("10 0 0\n".to_string(), true));
     for size in [1, 2, 3, 5, 6, 7, 9] {
         assert_eq!(answers(&chain(&vec![0; size])), (String::new(), false));
+    }
+}
+
+#[test]
+fn partial_sums_and_joins_as_the_format_has_them() {
+    let partial = Case { operation: 7, source: 0, number: 0, one: vec![0xAB; 3], two: vec![] };
+    assert_eq!(answers(&partial.to_bytes()), ("22188 3\n".to_string(), true));
+    let join = |two: &[u8]| Case { operation: 11, source: 0, number: 0, one: vec![], two: two.to_vec() }.to_bytes();
+    let two = [0xF2, 0x01, 0, 0, 0, 0, 0, 0, 0, 3, 0xF0, 0xEB, 0, 0, 0, 0, 0, 0, 0, 5];
+    assert_eq!(answers(&join(&two)), (format!("0 {} 8\n", 0xDDF2), true));
+    let mut long = two;
+    long[2..10].fill(0xFF);
+    assert_eq!(answers(&join(&long)), (format!("10 {} {}\n", 0xF201, u64::MAX), true));
+    for size in [0, 1, 8, 10, 19, 21, 40] {
+        assert_eq!(answers(&join(&vec![0; size])), (String::new(), false));
     }
 }

@@ -6,6 +6,15 @@ use crate::answer::*;
 /// Words at which sums go wrong.
 const CORNER_WORDS: [u64; 9] = [0, 1, 0xFF, 0x100, 0x7FFF, 0x8000, 0xFF00, 0xFFFE, 0xFFFF];
 
+/// Lengths at which a joined length goes wrong, or its parity.
+#[rustfmt::skip]
+const CORNER_LENGTHS: [u64; 12] = [
+    0, 1, 2, 3, (1 << 32) - 1, 1 << 32, (1 << 63) - 1, 1 << 63, (1 << 63) + 1, u64::MAX - 2, u64::MAX - 1, u64::MAX,
+];
+
+/// Folds that are joined with each two of these lengths.
+const JOINED_FOLDS: [u16; 8] = [0, 1, 0xFF, 0x100, 0x1234, 0xFF00, 0xFFFE, 0xFFFF];
+
 const EIGHT: [u8; 8] = [0x00, 0x01, 0xF2, 0x03, 0xF4, 0xF5, 0xF6, 0xF7];
 
 impl Maker {
@@ -22,8 +31,8 @@ impl Maker {
                 for new in CORNER_WORDS {
                     self.again(UPDATE, field << 32 | old << 16 | new, &[]);
                 }
-                for odd in 0..4 {
-                    self.again(JOIN, field << 32 | odd << 16 | old, &[]);
+                for (length_a, length_b) in [(0, 0), (0, 1), (1, 0), (1, 1)] {
+                    self.join((field as u16, length_a), (old as u16, length_b));
                 }
             }
         }
@@ -36,6 +45,41 @@ impl Maker {
         }
         for _ in 0..60 {
             self.any_chain();
+        }
+    }
+
+    /// Each two corner lengths with each fold before two others, and random joins.
+    pub fn joins(&mut self) {
+        for (i, length_a) in CORNER_LENGTHS.into_iter().enumerate() {
+            for (j, length_b) in CORNER_LENGTHS.into_iter().enumerate() {
+                for (k, fold) in JOINED_FOLDS.into_iter().enumerate() {
+                    for other in [i + j + k, i + j + k + 3].map(|place| JOINED_FOLDS[place % JOINED_FOLDS.len()]) {
+                        self.join((fold, length_a), (other, length_b));
+                    }
+                }
+            }
+        }
+        for _ in 0..500 {
+            self.any_join();
+        }
+    }
+
+    /// Lists of some thousand pieces, over and over the same few of a small buffer.
+    pub fn long_chains(&mut self) {
+        for buffer in [self.random.bytes(301), vec![0xFF; 301]] {
+            self.given(CHAIN, 0, &buffer, &[]);
+            let repeated: [(&[u32], usize, &[u32]); 7] = [
+                (&[0, 301], 1000, &[]),
+                (&[1, 300], 1000, &[]),
+                (&[7, 1], 2001, &[]),
+                (&[0, 299, 301, 0, 5, 2], 500, &[]),
+                (&[150, 151, 0, 150], 500, &[0, 1]),
+                (&[0, 301], 1000, &[1, 301]),
+                (&[0, 301], 1000, &[0]),
+            ];
+            for (pieces, times, last) in repeated {
+                self.again(CHAIN, 0, &big_endian(&[&pieces.repeat(times), last].concat()));
+            }
         }
     }
 
@@ -54,15 +98,46 @@ impl Maker {
             self.sum(bytes);
         }
         self.given(CHAIN, 0, &EIGHT, &big_endian(&[0, 3, 3, 5]));
-        self.again(JOIN, 0xF201 << 32 | 1 << 17 | 1 << 16 | 0xF0EB, &[]);
+        self.join((0xF201, 3), (0xF0EB, 5));
         self.again(UPDATE, 0xDD2F_5555_3285, &[]);
         self.again(UPDATE, 0xEDCB_1234_0000, &[]);
     }
 
+    /// A joined before B, each given as its fold and its length.
+    fn join(&mut self, a: (u16, u64), b: (u16, u64)) {
+        let mut two = Vec::new();
+        for (fold, length) in [a, b] {
+            two.extend(fold.to_be_bytes());
+            two.extend(length.to_be_bytes());
+        }
+        self.again(JOIN, 0, &two);
+    }
+
+    /// An update, and a join of small lengths that are made of the same number.
     fn any_update(&mut self) {
         let number = self.random.any() >> 16;
         self.again(UPDATE, number, &[]);
-        self.again(JOIN, number & 0xFFFF_0003_FFFF, &[]);
+        self.join(((number >> 32) as u16, number >> 24 & 0xFF), (number as u16, number >> 16 & 0xFF));
+    }
+
+    /// A join of lengths of any size; every other time they come to about 2^64 together.
+    fn any_join(&mut self) {
+        let folds = self.random.contents(4);
+        let length_a = self.any_length();
+        let length_b = if self.random.once_in(2) {
+            let about = self.random.between(0, 4) as u64;
+            (u64::MAX - length_a).saturating_sub(2).saturating_add(about)
+        } else {
+            self.any_length()
+        };
+        let fold = |at: usize| u16::from_be_bytes([folds[at], folds[at + 1]]);
+        self.join((fold(0), length_a), (fold(2), length_b));
+    }
+
+    /// A length of 1 to 64 bits.
+    fn any_length(&mut self) -> u64 {
+        let shift = self.random.between(0, 63);
+        self.random.any() >> shift
     }
 
     pub fn any_sums(&mut self) {
@@ -72,6 +147,7 @@ impl Maker {
         self.sum(&bytes);
         for _ in 0..5 {
             self.any_update();
+            self.any_join();
         }
     }
 
@@ -126,9 +202,7 @@ impl Maker {
         for _ in 0..6 {
             let mut list = Vec::new();
             for _ in 0..self.random.between(0, 7) {
-                let offset = self.random.between(0, length);
-                let piece = self.random.between(0, length - offset);
-                list.extend([offset as u32, piece as u32]);
+                list.extend(self.any_piece(length));
             }
             if !list.is_empty() && self.random.once_in(4) {
                 let at = self.random.between(0, list.len() - 1);
@@ -139,6 +213,25 @@ impl Maker {
             }
             self.again(CHAIN, 0, &big_endian(&list));
         }
+    }
+
+    /// A few random pieces of one buffer, up to some thousand times over; one list in eight ends outside.
+    pub fn any_long_chain(&mut self) {
+        let length = self.random.between(1, 3000);
+        let buffer = self.random.contents(length);
+        let count = self.random.between(1, 5);
+        let pieces: Vec<u32> = (0..count).flat_map(|_| self.any_piece(length)).collect();
+        let mut list = pieces.repeat(self.random.between(1, 4000 / count));
+        if self.random.once_in(8) {
+            list.extend([length as u32, 1]);
+        }
+        self.given(CHAIN, 0, &buffer, &big_endian(&list));
+    }
+
+    /// The offset and length of a piece that fits.
+    fn any_piece(&mut self, length: usize) -> [u32; 2] {
+        let offset = self.random.between(0, length);
+        [offset as u32, self.random.between(0, length - offset) as u32]
     }
 }
 
