@@ -159,20 +159,22 @@ static unsigned field(const uint8_t *bytes, size_t len)
     return answer;
 }
 
-/* The partial sum of a chain, and checks of the verdict and of the answers beside a refusal. */
+/* What stands where a partial sum is answered, before the call. */
+static const uint16_t before_fold = 0x5A5A;
+static const uint64_t before_length = 0x5A5A5A5A5A5A5A5A;
+
+/* The fold of a chain, and checks of the verdict, of the length and of the answers beside a refusal. */
 static unsigned chain(const uint8_t *bytes, size_t len, const uint32_t *pieces, size_t pieces_len,
-                      unsigned verdict, unsigned odd)
+                      unsigned verdict, uint64_t length)
 {
-    static const uint16_t before_fold = 0x5A5A;
-    static const uint8_t before_odd = 0x5A;
     uint16_t answer = 0;
     for (int lay = 0; lay < LAYS; lay++) {
         uint8_t *b = lend(&first, lay, bytes, len, 1);
         uint32_t *q = lend(&second, lay, pieces, 4 * pieces_len, 4);
         uint16_t *fold = lend(&third, lay, &before_fold, 2, 2);
-        uint8_t *is_odd = lend(&fourth, lay, &before_odd, 1, 1);
-        expect(hifrostum_sum_chain(b, len, q, pieces_len, fold, is_odd), verdict, "chain: verdict");
-        expect(*is_odd, odd, "chain: odd");
+        uint64_t *summed = lend(&fourth, lay, &before_length, 8, 8);
+        expect(hifrostum_sum_chain(b, len, q, pieces_len, fold, summed), verdict, "chain: verdict");
+        expect(*summed, length, "chain: length");
         if (verdict != 0)
             expect(*fold, 0, "chain: fold beside a refusal");
         answer = lay == 0 ? *fold : answer;
@@ -237,6 +239,25 @@ static void put(uint8_t *at, size_t value)
 {
     at[0] = (uint8_t)(value >> 8);
     at[1] = (uint8_t)value;
+}
+
+/* Joins two partial sums, and checks verdict, fold and length. What is wanted comes from the folds as
+ * words one behind the other, the second a byte later if the first sum's length is odd. */
+static void join(uint16_t fold_a, uint64_t length_a, uint16_t fold_b, uint64_t length_b)
+{
+    int past = length_b > UINT64_MAX - length_a;
+    uint8_t both[5] = {0};
+    put(both, fold_a);
+    put(both + 2 + length_a % 2, fold_b);
+    for (int lay = 0; lay < LAYS; lay++) {
+        uint16_t *joined = lend(&first, lay, &before_fold, 2, 2);
+        uint64_t *length = lend(&second, lay, &before_length, 8, 8);
+        expect(hifrostum_join(fold_a, length_a, fold_b, length_b, joined, length), past ? 10 : 0, "join: verdict");
+        expect(*joined, past ? fold_a : fold(weigh(both, 5)), "join: fold");
+        expect(*length, past ? length_a : length_a + length_b, "join: length");
+        guards(&first);
+        guards(&second);
+    }
 }
 
 /* What a message's own sum comes to, its field included. */
@@ -357,11 +378,14 @@ static void chains(void)
 {
     static const uint32_t joined[] = {0, 3, 3, 5}, gaps[] = {8, 0, 7, 1, 0, 0, 2, 3, 2, 3};
     static const uint8_t gathered[7] = {0xF7, 0xF2, 3, 0xF4, 0xF2, 3, 0xF4};
+    static const uint32_t mixed[] = {0, 3, 2, 2, 5, 3, 7, 1, 1, 2};
+    static const uint8_t mixture[11] = {0, 1, 0xF2, 0xF2, 3, 0xF5, 0xF6, 0xF7, 0xF7, 1, 0xF2};
     static const uint32_t wrapped[] = {0xFFFFFFFF, 1}, past[] = {0, 3, 9, 0}, late[] = {0, 8, 0, 8, 1, 8};
-    expect(chain(words, 8, joined, 4, 0, 0), 0xDDF2, "chain of 3 bytes and 5");
-    expect(chain(words, 8, joined, 2, 0, 1), 0xF201, "chain of 3 bytes");
-    expect(chain(words, 8, joined + 2, 2, 0, 1), 0xF0EB, "chain of 5 bytes");
-    expect(chain(words, 8, gaps, 10, 0, 1), fold(weigh(gathered, 7)), "chain of odd and repeated pieces");
+    expect(chain(words, 8, joined, 4, 0, 8), 0xDDF2, "chain of 3 bytes and 5");
+    expect(chain(words, 8, joined, 2, 0, 3), 0xF201, "chain of 3 bytes");
+    expect(chain(words, 8, joined + 2, 2, 0, 5), 0xF0EB, "chain of 5 bytes");
+    expect(chain(words, 8, gaps, 10, 0, 7), fold(weigh(gathered, 7)), "chain of odd and repeated pieces");
+    expect(chain(words, 8, mixed, 10, 0, 11), fold(weigh(mixture, 11)), "chain of odd and even pieces");
     expect(chain(words, 8, NULL, 0, 0, 0), 0, "empty chain");
     expect(chain(NULL, 0, joined, 0, 0, 0), 0, "empty chain of nothing");
     expect(chain(NULL, 0, gaps + 4, 2, 0, 0), 0, "empty piece of nothing");
@@ -378,7 +402,50 @@ static void chains(void)
         many[i + 1] = 1;
         p[i] = q[i / 2] = (uint8_t)(i * i >> 3);
     }
-    expect(chain(p, SPACE / 2, many, 20000, 0, 0), fold(weigh(q, 10000)), "chain of ten thousand bytes");
+    expect(chain(p, SPACE / 2, many, 20000, 0, 10000), fold(weigh(q, 10000)), "chain of ten thousand bytes");
+}
+
+static void joins(void)
+{
+    static const uint16_t folds[8] = {0, 1, 0xFF, 0x100, 0x1234, 0xFF00, 0xFFFE, 0xFFFF};
+    static const uint64_t lengths[12] = {
+        0, 1, 2, 3, 0xFFFFFFFF, 0x100000000, INT64_MAX, (uint64_t)INT64_MAX + 1, (uint64_t)INT64_MAX + 2,
+        UINT64_MAX - 2, UINT64_MAX - 1, UINT64_MAX,
+    };
+    uint16_t sum;
+    uint64_t length;
+    expect(hifrostum_join(0xF201, 3, 0xF0EB, 5, &sum, &length), 0, "join 3 bytes and 5");
+    expect(sum, 0xDDF2, "their fold");
+    expect(length, 8, "their length");
+    hifrostum_join(0x0100, 1, 0x0200, 1, &sum, &length);
+    expect(sum, 0x0102, "01 before 02");
+    hifrostum_join(0x0200, 1, 0x0100, 1, &sum, &length);
+    expect(sum, 0x0201, "02 before 01");
+    for (size_t i = 0; i < 64; i++)
+        for (size_t odd = 0; odd < 4; odd++)
+            join(folds[i / 8], 6 + odd / 2, folds[i % 8], 10 + odd % 2);
+    /* each two lengths with two pairs of folds, and all of those in turn */
+    for (size_t i = 0; i < 2 * 144; i++)
+        join(folds[i * 5 % 64 / 8], lengths[i / 2 / 12], folds[i * 5 % 8], lengths[i / 2 % 12]);
+}
+
+/* The chains of a string's pieces, all of one length, joined in turn into a sum that begins with nothing. */
+static void cuts(void)
+{
+    uint8_t bytes[40];
+    for (size_t i = 0; i < 40; i++)
+        bytes[i] = (uint8_t)(i * i * 7 + 3);
+    for (uint32_t cut = 1; cut <= 40; cut++) {
+        uint16_t sum = 0, other;
+        uint64_t length = 0, other_length;
+        for (uint32_t at = 0; at < 40; at += cut) {
+            uint32_t piece[2] = {at, at + cut <= 40 ? cut : 40 - at};
+            hifrostum_sum_chain(bytes, 40, piece, 2, &other, &other_length);
+            expect(hifrostum_join(sum, length, other, other_length, &sum, &length), 0, "join at a cut");
+            expect(sum, fold(weigh(bytes, at + piece[1])), "the fold so far");
+            expect(length, at + piece[1], "the length so far");
+        }
+    }
 }
 
 static void judging(void)
@@ -749,6 +816,9 @@ int main(void)
     group("update");
     chains();
     group("sum_chain");
+    joins();
+    cuts();
+    group("join");
     judging();
     refusals();
     unseen();
