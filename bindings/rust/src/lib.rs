@@ -50,7 +50,15 @@ mod c {
             pieces: *const u32,
             pieces_len: usize,
             fold: *mut u16,
-            odd: *mut u8,
+            length: *mut u64,
+        ) -> u8;
+        pub fn hifrostum_join(
+            fold_a: u16,
+            length_a: u64,
+            fold_b: u16,
+            length_b: u64,
+            fold: *mut u16,
+            length: *mut u64,
         ) -> u8;
         pub fn hifrostum_field(bytes: *const u8, len: usize) -> u16;
         pub fn hifrostum_update(field: u16, old_fold: u16, new_fold: u16) -> u16;
@@ -82,7 +90,7 @@ pub enum Verdict {
     Missing = 8,
     /// The message doesn't pass.
     MessageSum = 9,
-    /// A piece, stretch or address doesn't fit.
+    /// A piece, length, stretch or address doesn't fit.
     Place = 10,
     /// The lifetime is 0 or 1.
     Spent = 11,
@@ -166,13 +174,13 @@ pub struct Fold(pub u16);
 #[derive(Clone, Copy, Debug, PartialEq, Eq, Hash)]
 pub struct Field(pub u16);
 
-/// The sum of a byte string, and whether its length is odd.
+/// The sum of a byte string, which knows the string's length.
 #[derive(Clone, Copy, Debug, PartialEq, Eq, Hash)]
 pub struct Partial {
     /// The folded sum.
     pub fold: Fold,
-    /// Whether the string's length is odd.
-    pub odd: bool,
+    /// The string's length in bytes.
+    pub length: u64,
 }
 
 /// The verdict on a packet. Changes nothing.
@@ -227,10 +235,10 @@ pub fn judge_capture(capture: &[u8], verdicts: &mut [u8]) -> Result<usize, Verdi
 }
 
 /// The partial sum of pieces of a buffer, joined in list order. The list holds offset, length, offset,
-/// length; pieces may be empty, overlap or repeat. Refuses with `Place` a list of odd length or a piece
-/// that passes the buffer's end.
+/// length; pieces may be empty, overlap or repeat. Refuses with `Place` a list of odd length, a piece
+/// that passes the buffer's end, or lengths that together pass the 64-bit range.
 pub fn sum_chain(buffer: &[u8], pieces: &[u32]) -> Result<Partial, Verdict> {
-    let (mut fold, mut odd) = (0, 0);
+    let (mut fold, mut length) = (0, 0);
     let number = unsafe {
         c::hifrostum_sum_chain(
             buffer.as_ptr(),
@@ -238,16 +246,42 @@ pub fn sum_chain(buffer: &[u8], pieces: &[u32]) -> Result<Partial, Verdict> {
             pieces.as_ptr(),
             pieces.len(),
             &mut fold,
-            &mut odd,
+            &mut length,
         )
     };
-    done(
-        number,
-        Partial {
-            fold: Fold(fold),
-            odd: odd != 0,
-        },
-    )
+    done(number, partial(fold, length))
+}
+
+/// The partial sum of a string whose first part has the sum `a` and whose rest has the sum `b`. Refuses
+/// with `Place` lengths that together pass the 64-bit range; the caller still has the left sum, `a`.
+///
+/// Mind the order: 01 before 02 is 0102, and 02 before 01 is 0201. The joined length doesn't tell that
+/// the two were exchanged, and where both lengths are even the fold doesn't either. `a.length` is the
+/// place of `b`'s first byte in the whole: compare the two before you join. A piece left out, or joined
+/// twice, does show in the length.
+///
+/// ```
+/// use hifrostum::{join, sum_chain, Fold};
+/// let bytes = [0x01, 0x02];
+/// let (a, b) = (sum_chain(&bytes, &[0, 1])?, sum_chain(&bytes, &[1, 1])?);
+/// assert_eq!(join(a, b), sum_chain(&bytes, &[0, 2]));
+/// assert_eq!(join(a, b)?.fold, Fold(0x0102));
+/// assert_eq!(join(b, a)?.fold, Fold(0x0201));
+/// # Ok::<(), hifrostum::Verdict>(())
+/// ```
+pub fn join(a: Partial, b: Partial) -> Result<Partial, Verdict> {
+    let (mut fold, mut length) = (0, 0);
+    let number = unsafe {
+        c::hifrostum_join(
+            a.fold.0,
+            a.length,
+            b.fold.0,
+            b.length,
+            &mut fold,
+            &mut length,
+        )
+    };
+    done(number, partial(fold, length))
 }
 
 /// The field of a byte string.
@@ -269,6 +303,12 @@ pub fn field(bytes: &[u8]) -> Field {
 /// ```
 pub fn update(field: Field, old: Fold, new: Fold) -> Field {
     Field(unsafe { c::hifrostum_update(field.0, old.0, new.0) })
+}
+
+/// The partial sum that the library answered.
+fn partial(fold: u16, length: u64) -> Partial {
+    let fold = Fold(fold);
+    Partial { fold, length }
 }
 
 /// An answer, unless the call was refused.

@@ -23,6 +23,11 @@ fn verdicts_have_their_numbers_and_names() {
     assert_eq!(Verdict::Room.to_string(), "room");
 }
 
+fn partial(fold: u16, length: u64) -> Partial {
+    let fold = Fold(fold);
+    Partial { fold, length }
+}
+
 #[test]
 fn sums() {
     assert_eq!(field(&[]), Field(0xFFFF));
@@ -30,29 +35,24 @@ fn sums() {
     assert_eq!(field(&[0xAB]), Field(0x54FF));
     assert_eq!(update(Field(0xDD2F), Fold(0x5555), Fold(0x3285)), Field(0));
     let words = [0, 1, 0xF2, 3, 0xF4, 0xF5, 0xF6, 0xF7];
-    assert_eq!(
-        sum_chain(&words, &[0, 3, 3, 5]),
-        Ok(Partial {
-            fold: Fold(0xDDF2),
-            odd: false
-        })
-    );
-    assert_eq!(
-        sum_chain(&words, &[0, 3]),
-        Ok(Partial {
-            fold: Fold(0xF201),
-            odd: true
-        })
-    );
-    assert_eq!(
-        sum_chain(&[], &[]),
-        Ok(Partial {
-            fold: Fold(0),
-            odd: false
-        })
-    );
+    assert_eq!(sum_chain(&words, &[0, 3, 3, 5]), Ok(partial(0xDDF2, 8)));
+    assert_eq!(sum_chain(&words, &[0, 3]), Ok(partial(0xF201, 3)));
+    assert_eq!(sum_chain(&words, &[3, 5]), Ok(partial(0xF0EB, 5)));
+    assert_eq!(sum_chain(&[], &[]), Ok(partial(0, 0)));
     assert_eq!(sum_chain(&words, &[0, 3, 3]), Err(Verdict::Place));
     assert_eq!(sum_chain(&words, &[u32::MAX, 1]), Err(Verdict::Place));
+}
+
+#[test]
+fn joins() {
+    let (three, five) = (partial(0xF201, 3), partial(0xF0EB, 5));
+    assert_eq!(join(three, five), Ok(partial(0xDDF2, 8)));
+    assert_eq!(join(five, three), Ok(partial(0xF2DD, 8)));
+    let (longest, empty, one) = (partial(0x1234, u64::MAX), partial(1, 0), partial(1, 1));
+    assert_eq!(join(longest, empty), Ok(partial(0x1334, u64::MAX)));
+    assert_eq!(join(empty, longest), Ok(partial(0x1235, u64::MAX)));
+    assert_eq!(join(longest, one), Err(Verdict::Place));
+    assert_eq!(join(one, longest), Err(Verdict::Place));
 }
 
 #[test]
