@@ -59,11 +59,12 @@ fi
 tests/host/program.sh "$judge_capture" crates/judge_capture/stdin
 tests/host/wrapper.sh crates/judge_capture/stdin
 tests/host/hut.sh $out/hut "$judge_capture"
-# an odd length over 2^32; in the emulator, where that takes a quarter of a minute and more, one over 2^28
+# a block and a chain of an odd length over 2^32, and a chain of 2^64, whose list has 2^32 pieces and more; in the
+# emulator the block has a length over 2^28, and the chain of 2^64, which takes a minute there, is left out
 if $x86 native; then
-    $x86 run $out/lengths 4294967303
+    $x86 run $out/lengths 4294967303 4294967303 1
 else
-    $x86 run $out/lengths 268435463
+    $x86 run $out/lengths 268435463 4294967303 0
 fi
 $x86 run $out/host-shared >$out/said || fail "from a shared object: $(cat $out/said)"
 sed -n '$s/^host:/& from a shared object:/p' $out/said

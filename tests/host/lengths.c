@@ -1,16 +1,20 @@
 /* Calls the archive with lengths that don't fit 32 bits.
  *
- *     lengths BYTES    the block that is summed has so many bytes: over 2^32, or fewer in an emulator
+ *     lengths BLOCK CHAIN LIST
+ *
+ * The block that is summed has BLOCK bytes, and the chain CHAIN or a few more: over 2^32, or fewer in an
+ * emulator. LIST is 1 if a chain of 2^64 bytes is tried too, and 0 if its long list would take too long.
  *
  * Packets, addresses and captures lie before memory that can't be touched: with a length of more than
  * 2^32 a call that looked at a byte behind them would end the program. Each such length is chosen so
  * that its low 32 bits would give another answer.
  */
-#define _DEFAULT_SOURCE
+#define _GNU_SOURCE
 #include <stdio.h>
 #include <stdlib.h>
 #include <string.h>
 #include <sys/mman.h>
+#include <unistd.h>
 
 #include "hifrostum.h"
 
@@ -28,10 +32,16 @@ static void expect(unsigned long got, unsigned long want, const char *what)
     }
 }
 
-/* Address space that can't be touched. */
+/* Address space that can't be touched, or MAP_FAILED. */
+static void *untouchable(size_t len)
+{
+    return mmap(NULL, len, PROT_NONE, MAP_PRIVATE | MAP_ANONYMOUS | MAP_NORESERVE, -1, 0);
+}
+
+/* The same, without which the program ends. */
 static uint8_t *reserve(size_t len)
 {
-    uint8_t *map = mmap(NULL, len, PROT_NONE, MAP_PRIVATE | MAP_ANONYMOUS | MAP_NORESERVE, -1, 0);
+    uint8_t *map = untouchable(len);
     if (map == MAP_FAILED) {
         perror("lengths: no address space");
         exit(1);
@@ -113,19 +123,93 @@ static void chains(void)
     uint8_t *map = reserve(over + PAGE), *edge = map + over - PAGE;
     static const uint32_t around[] = {0xFFFFFFFF, 9, 0xFFFFFFF0, 4}, twice[] = {0xFFFFFFFF, 0xFFFFFFFF};
     uint16_t fold = 1;
-    uint8_t odd = 7;
+    uint64_t length = 7;
     allow(edge, 2 * PAGE, PROT_READ | PROT_WRITE);
     for (size_t i = 0; i < 9; i++)
         map[over - 1 + i] = (uint8_t)(i + 1);
     map[0xFFFFFFF1] = 0x80;
     /* 0102 0304 0506 0708 0900, and behind the odd nine 00 80 00 00 as 8000 */
-    expect(hifrostum_sum_chain(map, over + 8, around, 4, &fold, &odd), 0, "a chain around 2^32");
+    expect(hifrostum_sum_chain(map, over + 8, around, 4, &fold, &length), 0, "a chain around 2^32");
     expect(fold, 0x1914 + 0x8000, "its fold");
-    expect(odd, 1, "its parity");
-    expect(hifrostum_sum_chain(map, over + 7, around, 4, &fold, &odd), 10, "a chain one byte too long");
-    expect(fold + odd, 0, "beside a refusal");
-    expect(hifrostum_sum_chain(map, over + PAGE, twice, 2, &fold, &odd), 10, "a piece of 2^32 - 1 at 2^32 - 1");
-    expect(hifrostum_sum_chain(map, over, around, 0, &fold, &odd), 0, "an empty chain");
+    expect(length, 13, "its length");
+    expect(hifrostum_sum_chain(map, over + 7, around, 4, &fold, &length), 10, "a chain one byte too long");
+    expect(fold + length, 0, "beside a refusal");
+    expect(hifrostum_sum_chain(map, over + PAGE, twice, 2, &fold, &length), 10, "a piece of 2^32 - 1 at 2^32 - 1");
+    expect(hifrostum_sum_chain(map, over, around, 0, &fold, &length), 0, "an empty chain");
+}
+
+static unsigned long weigh(size_t position, const uint8_t *bytes, size_t len)
+{
+    unsigned long total = 0;
+    for (size_t i = 0; i < len; i++)
+        total += (position + i) % 2 ? bytes[i] : 256ul * bytes[i];
+    return total;
+}
+
+static unsigned fold_of(unsigned long total)
+{
+    return total == 0 ? 0 : (unsigned)(1 + (total - 1) % 65535);
+}
+
+/* A chain of at least so many bytes: over and over a piece of odd length and one of even length. The odd ones
+ * begin at even and odd positions in turn, and the even ones the other way round. Answers the chain's length. */
+static size_t long_chain(size_t least)
+{
+    enum { ODD = 65535, EVEN = ODD - 1 };
+    static uint8_t buffer[ODD];
+    size_t times = least / (ODD + EVEN) + 1, late = times / 2, early = times - late;
+    uint32_t *pieces = malloc(times * 4 * sizeof *pieces);
+    uint16_t fold = 1;
+    uint64_t length = 7;
+    if (pieces == NULL) {
+        perror("lengths: no memory");
+        exit(1);
+    }
+    for (size_t i = 0; i < ODD; i++)
+        buffer[i] = (uint8_t)(i * i >> 3);
+    for (size_t i = 0; i < times; i++) {
+        pieces[4 * i] = 0;
+        pieces[4 * i + 1] = ODD;
+        pieces[4 * i + 2] = 1;
+        pieces[4 * i + 3] = EVEN;
+    }
+    unsigned long total = early * (weigh(0, buffer, ODD) + weigh(1, buffer + 1, EVEN)) +
+                          late * (weigh(1, buffer, ODD) + weigh(0, buffer + 1, EVEN));
+    expect(hifrostum_sum_chain(buffer, ODD, pieces, 4 * times, &fold, &length), 0, "a long chain");
+    expect(fold, fold_of(total), "its fold");
+    expect(length, times * (ODD + EVEN), "its length");
+    free(pieces);
+    return times * (ODD + EVEN);
+}
+
+/* A chain whose lengths come to 2^64 together: 2^32 + 1 pieces of 2^32 - 1 bytes and one of a single byte. Its
+ * list is one file in memory, mapped again and again, and no byte of its buffer can be touched. So it must be
+ * refused before a byte is summed. Answers 0 if there is no room for it. */
+static int endless_chain(void)
+{
+    enum { FILE_SIZE = 1 << 26 };
+    const size_t list_size = (size_t)1 << 35;
+    uint16_t fold = 1;
+    uint64_t length = 7;
+    int file = memfd_create("list", 0), whole = file != -1 && ftruncate(file, FILE_SIZE) == 0;
+    uint8_t *map = untouchable(list_size + PAGE), *buffer = untouchable(over);
+    if (!whole || map == MAP_FAILED || buffer == MAP_FAILED)
+        return 0;
+    for (size_t at = 0; at < list_size; at += FILE_SIZE)
+        if (mmap(map + at, FILE_SIZE, PROT_READ | PROT_WRITE, MAP_SHARED | MAP_FIXED | MAP_NORESERVE, file, 0) ==
+            MAP_FAILED)
+            return 0;
+    allow(map + list_size, PAGE, PROT_READ | PROT_WRITE);
+    uint32_t *pieces = (uint32_t *)map, *last = pieces + list_size / sizeof *pieces;
+    for (size_t i = 1; i < FILE_SIZE / sizeof *pieces; i += 2)
+        pieces[i] = UINT32_MAX;
+    last[1] = UINT32_MAX;
+    last[3] = 1;
+    expect(hifrostum_sum_chain(buffer, UINT32_MAX, pieces, list_size / sizeof *pieces + 4, &fold, &length), 10,
+           "a chain of 2^64 bytes");
+    expect(fold, 0, "its fold");
+    expect(length, 0, "its length");
+    return 1;
 }
 
 /* A block of zeros with a few other bytes, at even and odd places and at both ends. */
@@ -141,20 +225,25 @@ static void block(size_t len)
         map[places[i]] = value;
         total += places[i] % 2 ? value : 256ul * value;
     }
-    expect(hifrostum_field(map, len), 65535 - (1 + (total - 1) % 65535), "the field of a long block");
+    expect(hifrostum_field(map, len), 65535 - fold_of(total), "the field of a long block");
 }
 
 int main(int argc, char **argv)
 {
-    size_t len = argc == 2 ? strtoull(argv[1], NULL, 10) : 0;
+    size_t len = argc == 4 ? strtoull(argv[1], NULL, 10) : 0;
     if (len < 6) {
-        fprintf(stderr, "usage: lengths BYTES\n");
+        fprintf(stderr, "usage: lengths BLOCK CHAIN LIST\n");
         return 2;
     }
     packets();
     captures();
     chains();
     block(len);
-    printf("lengths: %u checks, %u failed (the summed block has %zu bytes)\n", checks, failed, len);
+    size_t chained = long_chain(strtoull(argv[2], NULL, 10));
+    const char *endless = strcmp(argv[3], "1") != 0 ? "left out, too slow"
+                          : endless_chain()         ? "tried"
+                                                    : "left out, no room";
+    printf("lengths: %u checks, %u failed (the summed block has %zu bytes, the chain %zu; a chain of 2^64: %s)\n",
+           checks, failed, len, chained, endless);
     return failed != 0;
 }
