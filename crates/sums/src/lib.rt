@@ -101,14 +101,8 @@ pub fn join_within(a: Partial, b: Partial) -> Partial
 pub fn sum(bytes: &[u8]) -> Partial
     ensures { λ r. ⌜ r ≡ partialOf (now (bytes .entry)) ⌝ }
 {
-    let mut acc: u64 = 0;
-    let mut i: usize = 0;
-    while i + 1 < bytes.len() {
-        acc = carry(acc, pair(bytes, i));
-        i += 2;
-    }
     Partial {
-        fold: last(bytes, i, acc),
+        fold: folded(bytes),
         length: bytes.len() as u64,
     }
 }
@@ -117,8 +111,21 @@ pub fn sum(bytes: &[u8]) -> Partial
 pub fn fold_at(bytes: &[u8], odd: bool) -> Fold
     ensures { λ r. ⌜ r .0 ≡ fold (weigh odd (now (bytes .entry))) ⌝ }
 {
-    let s = sum(bytes);
-    Fold(aligned(odd, s.fold.0))
+    let f = folded(bytes);
+    Fold(aligned(odd, f.0))
+}
+
+// The fold of some bytes: the one loop that sums.
+fn folded(bytes: &[u8]) -> Fold
+    ensures { λ r. ⌜ r .0 ≡ fold (total (now (bytes .entry))) ⌝ }
+{
+    let mut acc: u64 = 0;
+    let mut i: usize = 0;
+    while i + 1 < bytes.len() {
+        acc = carry(acc, pair(bytes, i));
+        i += 2;
+    }
+    last(bytes, i, acc)
 }
 
 // A fold, with its two bytes exchanged if what it is added to is odd.

@@ -1,7 +1,6 @@
 -- The sum's fold, complemented.
 use mathlib.Core.Path.{_∙_, ap}
 use Rattle.sums.specs.Fold.{fieldOf}
-use Rattle.sums.specs.declared.Partial.{Partial}
 use borrow.Author.Needs.{needs}
 use Rattle.hifrostum.proofs.hifrostum_field.Statement.{statement}
 use Rattle.hifrostum.proofs.hifrostum_field.Tie as tie
@@ -12,4 +11,4 @@ hifrostum-field-spec =
     (tie.spec
     (λ c κs. search needs)
     (λ c κs. search needs)
-    (λ c. c .field-of .ensures ∙ ap (λ (s : Partial). fieldOf (s .fold .0)) (c .before .sum .ensures)))
+    (λ c. c .field-of .ensures ∙ ap fieldOf (c .before .fold-at .ensures)))
