@@ -12,6 +12,7 @@ import tempfile
 from scapy.layers.inet import ICMP, IP, TCP, UDP, IPOption_NOP, IPOption_Router_Alert
 from scapy.layers.inet6 import ICMPv6EchoReply, ICMPv6EchoRequest, ICMPv6ND_NA, ICMPv6ND_NS, ICMPv6Unknown, IPv6
 from scapy.packet import Raw
+from scapy.utils import checksum
 
 SEED, MADE, ZEROS, DAMAGES, STRETCHES = 20, 1500, 60, 4, 2
 GOOD, UNSUMMED, HEADER_SUM, UNCOVERED, MESSAGE_SUM = 0, 1, 5, 7, 9
@@ -52,7 +53,7 @@ def count(what, agreed, packets):
 
 
 def ours(requests):
-    """Calls the library: requests of letter, number, new bytes and packet; answers of verdict and packet."""
+    """Calls the library: requests of letter, number, new bytes and packet; answers of verdict and packet or sum."""
     sent = b"".join(
         letter.encode() + struct.pack(">II", number, len(new)) + new + struct.pack(">I", len(data)) + data
         for letter, number, new, data in requests
@@ -295,6 +296,24 @@ def check_mended(packets):
     count("mended by us; the bytes that scapy makes", agreed, len(mended))
 
 
+def cut(data):
+    """The list of pieces that a string is cut into."""
+    places = [0, *sorted(rng.randrange(len(data) + 1) for _ in range(rng.randrange(8))), len(data)]
+    return b"".join(struct.pack(">II", here, there - here) for here, there in zip(places, places[1:]))
+
+
+def check_sums(letter, how, packets):
+    """Packets in pieces: scapy's sum of the whole, and its length."""
+    requests, agreed = [(letter, 0, cut(data), data) for data in packets], 0
+    for data, (verdict, answer) in zip(packets, ours(requests)):
+        fold, length = struct.unpack(">HQ", answer)
+        if (verdict, 65535 - fold, length) == (GOOD, checksum(data), len(data)):
+            agreed += 1
+        else:
+            disagree(f"{how}: answered {verdict}, fold {fold:04X}, length {length}", data)
+    count(f"{how} by us; the sum that scapy has of the whole", agreed, len(packets))
+
+
 def main():
     made = [scapy_made() for _ in range(MADE)] + [zero_made(i) for i in range(ZEROS)]
     sent = kernel_made(sys.argv[1])
@@ -312,6 +331,8 @@ def main():
     check_damaged(both)
     check_edits(both)
     check_mended(both)
+    check_sums("c", "cut and summed as a chain", both)
+    check_sums("p", "cut, summed piece by piece and joined", both)
     print("| what | packets | agreed |\n|---|---|---|")
     for what, packets, agreed in table:
         print(f"| {what} | {packets} | {agreed} |")

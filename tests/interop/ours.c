@@ -1,8 +1,9 @@
 /* Calls the library for the interop test: requests on standard input, answers on standard output.
  *
- * A request is a letter (j judge, m mend, l lower lifetime, a set address, s set stretch), a number
- * (side or place), new bytes and a packet; an answer is a verdict number and the packet. Numbers are
- * 32-bit, high byte first, and bytes come after their number. */
+ * A request is a letter (j judge, m mend, l lower lifetime, a set address, s set stretch, c sum a chain,
+ * p sum piece by piece and join), a number (side or place), new bytes (for c and p the list of pieces)
+ * and a packet; an answer is a verdict number and the packet (for c and p the fold and the length in its
+ * place). Numbers are 32-bit, high byte first, and bytes come after their number. */
 #include <stdio.h>
 #include <stdlib.h>
 
@@ -33,6 +34,37 @@ static size_t bytes(uint8_t *to)
     return len;
 }
 
+/* A number of so many bytes, high byte first. */
+static void put(uint8_t *to, size_t size, uint64_t value)
+{
+    for (; size > 0; value >>= 8)
+        to[--size] = (uint8_t)value;
+}
+
+/* The partial sum of pieces of a packet, as one chain or each by itself and then joined. It takes the
+ * packet's place. */
+static uint8_t sum(int joined, const uint8_t *list, size_t list_len, uint8_t *packet, size_t *len)
+{
+    static uint32_t pieces[LONGEST / 4];
+    size_t count = list_len / 4;
+    uint16_t fold = 0, next;
+    uint64_t length = 0, next_length;
+    uint8_t verdict = 0;
+    for (size_t i = 0; i < count; i++, list += 4)
+        pieces[i] = (uint32_t)list[0] << 24 | (uint32_t)list[1] << 16 | (uint32_t)list[2] << 8 | list[3];
+    if (!joined)
+        verdict = hifrostum_sum_chain(packet, *len, pieces, count, &fold, &length);
+    for (size_t i = 0; joined && verdict == 0 && i < count; i += 2) {
+        verdict = hifrostum_sum_chain(packet, *len, pieces + i, 2, &next, &next_length);
+        if (verdict == 0)
+            verdict = hifrostum_join(fold, length, next, next_length, &fold, &length);
+    }
+    put(packet, 2, fold);
+    put(packet + 2, 8, length);
+    *len = 10;
+    return verdict;
+}
+
 int main(void)
 {
     static uint8_t new[LONGEST], packet[LONGEST];
@@ -46,9 +78,12 @@ int main(void)
         case 'l': verdict = hifrostum_lower_lifetime(packet, len); break;
         case 'a': verdict = hifrostum_set_address(packet, len, where, new, new_len); break;
         case 's': verdict = hifrostum_set_stretch(packet, len, where, new, new_len); break;
+        case 'c':
+        case 'p': verdict = sum(letter == 'p', new, new_len, packet, &len); break;
         default: stop("no such letter");
         }
-        uint8_t head[5] = {verdict, 0, (uint8_t)(len >> 16), (uint8_t)(len >> 8), (uint8_t)len};
+        uint8_t head[5] = {verdict};
+        put(head + 1, 4, len);
         if (fwrite(head, 1, 5, stdout) != 5 || fwrite(packet, 1, len, stdout) != len)
             stop("an answer was not taken");
     }
