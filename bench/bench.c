@@ -14,24 +14,38 @@
 
 #include "ways.h"
 
-enum operation { FIELD, JUDGE, MEND, LOWER, ADDRESS, STRETCH, OPERATIONS };
+enum operation { FIELD, CHAIN, JUDGE, MEND, LOWER, ADDRESS, STRETCH, OPERATIONS };
 #ifdef CLANG
 enum { WAYS = 1 + 2 * C_WAYS };
 #else
 enum { WAYS = 1 + C_WAYS };
 #endif
-enum { LONGEST = 60000, BATCH = 64, ROUNDS = 3000 };
+enum { LONGEST = 60000, PIECE = 63, BATCH = 64, ROUNDS = 3000 };
 
 static const char *const names[OPERATIONS] = {
-    "field", "judge", "mend", "lower lifetime", "set address", "set stretch",
+    "field", "chain", "judge", "mend", "lower lifetime", "set address", "set stretch",
 };
 static const struct way ours = {
-    "ours", hifrostum_field, hifrostum_judge, hifrostum_mend, hifrostum_lower_lifetime,
+    "ours", hifrostum_field, hifrostum_sum_chain, hifrostum_judge, hifrostum_mend, hifrostum_lower_lifetime,
     hifrostum_set_address, hifrostum_set_stretch,
 };
 static const struct way *ways[WAYS] = {&ours};
 static const size_t lengths[] = {40, 64, 128, 576, 1500}, lifetimes[] = {64, 128, 576, 1500, 9000, 60000};
 static const uint8_t new[16] = {0xFD, 0x12, 0x34, 0x56, 0x78, 0x9A, 0xBC, 0xDE, 0xF0, 1, 2, 3, 4, 5, 6, 7};
+
+/* The pieces of a chain: a header of 20 bytes, and the rest 63 bytes at a time, so that odd pieces begin at even and
+ * at odd places. */
+static uint32_t pieces[2 * (LONGEST / PIECE + 2)];
+static size_t pieces_len;
+
+static void cut(size_t len)
+{
+    pieces_len = 0;
+    for (size_t at = 0, size = 20; at < len; at += size, size = PIECE) {
+        pieces[pieces_len++] = (uint32_t)at;
+        pieces[pieces_len++] = (uint32_t)(size < len - at ? size : len - at);
+    }
+}
 
 /* What a trace is cut at. */
 __attribute__((noinline)) void begin(void)
@@ -49,11 +63,15 @@ static int has(const struct way *way, enum operation op)
     return way->judge || op >= LOWER;
 }
 
-/* One call. A new address is a destination; a stretch is 8 bytes from the odd place 3 on. */
+/* One call. A chain answers its fold behind its length, or 1; a new address is a destination; a stretch is 8 bytes
+ * from the odd place 3 on. */
 static inline unsigned call(const struct way *way, enum operation op, uint8_t *packet, size_t len)
 {
+    uint16_t fold;
+    uint64_t length;
     switch (op) {
     case FIELD: return way->field(packet, len);
+    case CHAIN: return way->chain(packet, len, pieces, pieces_len, &fold, &length) ? 1 : (unsigned)length << 16 | fold;
     case JUDGE: return way->judge(packet, len);
     case MEND: return way->mend(packet, len);
     case LOWER: return way->lower(packet, len);
@@ -121,7 +139,7 @@ static double now(void)
 /* Prints what is measured. A sum has no family. */
 static void print_row(const char *before, enum operation op, int family, size_t len)
 {
-    printf("%s%s | %s %zu", before, names[op], op == FIELD ? "bytes" : family == 4 ? "IPv4" : "IPv6", len);
+    printf("%s%s | %s %zu", before, names[op], op <= CHAIN ? "bytes" : family == 4 ? "IPv4" : "IPv6", len);
 }
 
 /* Prints a row of the table: the best of many batches for each way, all ways taking turns. Each batch begins with the
@@ -142,7 +160,7 @@ static void timed(enum operation op, int family, const uint8_t *packet, size_t l
             double each = (now() - start) / BATCH;
             if (best[w] == 0 || each < best[w])
                 best[w] = each;
-            if (op != FIELD && answers != 0) {
+            if (op > CHAIN && answers != 0) {
                 fprintf(stderr, "bench: %s: %s refused a good packet\n", names[op], ways[w]->name);
                 exit(1);
             }
@@ -162,6 +180,7 @@ static void measure(int calls, enum operation op, int family, size_t len)
 {
     static uint8_t packet[LONGEST];
     build(packet, family, len);
+    cut(len);
     for (int w = 0; w < WAYS; w++) {
         if (!has(ways[w], op))
             continue;
@@ -207,7 +226,7 @@ int main(int argc, char **argv)
         for (int family = 4; family <= 6; family += 2)
             for (size_t i = 0; i < sizeof lengths / sizeof *lengths; i++)
                 /* a sum has no family, and 40 bytes hold no UDP over IPv6 */
-                if (family == 4 || (op != FIELD && lengths[i] != 40))
+                if (family == 4 || (op > CHAIN && lengths[i] != 40))
                     measure(calls, op, family, lengths[i]);
     return 0;
 }

@@ -1,5 +1,5 @@
-/* What a C user would take instead of the library: three ways to sum, and a relay's judge, mender and
- * edits over each. They serve UDP over IPv4 and IPv6 alone, test what a careful user tests, and sum in
+/* What a C user would take instead of the library: three ways to sum, and chains, a relay's judge, mender
+ * and edits over each. They serve UDP over IPv4 and IPv6 alone, test what a careful user tests, and sum in
  * the machine's byte order, as RFC 1071 advises. An edit sums afresh what it touched, but for the last
  * way, which updates by RFC 1624. All answer 1 where they refuse. */
 #include "ways.h"
@@ -118,6 +118,24 @@ static inline int find(const uint8_t *p, size_t len, struct place *at)
 typedef uint16_t summing(const uint8_t *, size_t);
 #define EACH static inline __attribute__((always_inline))
 
+EACH uint8_t chain(summing sum, const uint8_t *b, size_t n, const uint32_t *list, size_t list_len, uint16_t *out,
+                   uint64_t *length)
+{
+    uint64_t total = 0, so_far = 0;
+    if (list_len % 2)
+        return 1;
+    for (; list_len > 0; list_len -= 2, list += 2) {
+        if ((size_t)list[0] + list[1] > n)
+            return 1;
+        uint16_t piece = sum(b + list[0], list[1]);
+        total += so_far % 2 ? swap(piece) : piece;
+        so_far += list[1];
+    }
+    *out = swap(fold(total));
+    *length = so_far;
+    return 0;
+}
+
 EACH uint16_t message(summing sum, const uint8_t *p, const struct place *at)
 {
     size_t len = at->end - at->start;
@@ -203,6 +221,11 @@ EACH uint8_t stretch(summing sum, uint8_t *p, size_t len, size_t where, const ui
     {                                                                                                          \
         return (uint16_t)~swap(sum_##name(b, n));                                                              \
     }                                                                                                          \
+    static uint8_t name##_chain(const uint8_t *b, size_t n, const uint32_t *list, size_t list_len,             \
+                                uint16_t *out, uint64_t *length)                                               \
+    {                                                                                                          \
+        return chain(sum_##name, b, n, list, list_len, out, length);                                           \
+    }                                                                                                          \
     static uint8_t name##_judge(const uint8_t *p, size_t n)                                                    \
     {                                                                                                          \
         return judge(sum_##name, p, n);                                                                        \
@@ -223,8 +246,8 @@ EACH uint8_t stretch(summing sum, uint8_t *p, size_t len, size_t where, const ui
     {                                                                                                          \
         return stretch(sum_##name, p, n, where, new, new_len);                                                 \
     }                                                                                                          \
-    static const struct way name = {words,        name##_field,   name##_judge, name##_mend,                   \
-                                    name##_lower, name##_address, name##_stretch}
+    static const struct way name = {words,       name##_field, name##_chain,   name##_judge,                   \
+                                    name##_mend, name##_lower, name##_address, name##_stretch}
 
 WAY(rfc1071, "RFC 1071 loop");
 WAY(wide, "64-bit loop");
@@ -287,7 +310,7 @@ static uint8_t hand_stretch(uint8_t *p, size_t len, size_t where, const uint8_t 
     return 0;
 }
 
-static const struct way by_hand = {"RFC 1624 by hand", 0, 0, 0, hand_lower, hand_address, hand_stretch};
+static const struct way by_hand = {"RFC 1624 by hand", 0, 0, 0, 0, hand_lower, hand_address, hand_stretch};
 
 /* BY is by_cc or by_clang. */
 const struct way *const BY[C_WAYS] = {&rfc1071, &wide, &dpdk, &by_hand};

@@ -141,6 +141,21 @@ fn both_orders_agree_exactly_where_both_lengths_are_even() {
     }
 }
 
+/// 65535 is 255 times 257: the folds can't tell the order where 257 divides what the other order exchanges.
+#[test]
+fn both_orders_agree_where_257_divides_what_is_exchanged() {
+    let mut random = Random(12);
+    let mut agreed = [[0; 2]; 2];
+    for _ in 0..100_000 {
+        let [a, b] = [(); 2].map(|()| Partial { fold: Fold(random.any() as u16), length: random.any() >> 1 });
+        let (odd_a, odd_b) = (a.length as usize % 2, b.length as usize % 2);
+        let exchanged = odd_a as i32 * i32::from(b.fold.0) - odd_b as i32 * i32::from(a.fold.0);
+        assert_eq!(join(a, b) == join(b, a), exchanged % 257 == 0);
+        agreed[odd_a][odd_b] += usize::from(exchanged % 257 == 0);
+    }
+    assert!(agreed[0][0] > 20_000 && agreed[0][1] > 50 && agreed[1][0] > 50 && agreed[1][1] > 50, "{agreed:?}");
+}
+
 /// Three sums come to the same in either grouping, or the range is passed in both.
 #[test]
 fn joining_is_associative() {
