@@ -108,8 +108,8 @@ uint8_t hifrostum_sum_chain(const uint8_t *buffer, size_t len,
  * Refusals, with *fold and *length set to A's: 10 if the lengths together pass 64 bits.
  *
  * Mind the order: *length doesn't tell that A and B were exchanged, and where both lengths are even
- * *fold doesn't either. length_a is the place of B's first byte in the whole: compare the two before
- * you join. A piece left out, or joined twice, does show in *length. */
+ * *fold doesn't either. length_a is the place of B's first byte in the whole. Join only where the two
+ * are equal, and the sum is that of the first *length bytes, whatever came and in whatever order. */
 uint8_t hifrostum_join(uint16_t fold_a, uint64_t length_a, uint16_t fold_b, uint64_t length_b,
                        uint16_t *fold, uint64_t *length);
 

@@ -448,6 +448,25 @@ static void cuts(void)
     }
 }
 
+/* A driver that joins a piece only where its sum ends. It gets all pieces over and over, and none in order. */
+static void in_place(void)
+{
+    static const uint32_t pieces[6][2] = {{20, 7}, {4, 16}, {27, 13}, {3, 1}, {5, 2}, {0, 3}};
+    uint16_t sum = 0, other;
+    uint64_t length = 0, other_length;
+    uint8_t bytes[40];
+    for (size_t i = 0; i < 40; i++)
+        bytes[i] = (uint8_t)(i * i * 5 + 1);
+    for (size_t i = 0; i < 6 * 6; i++) {
+        const uint32_t *piece = pieces[i % 6];
+        hifrostum_sum_chain(bytes, 40, piece, 2, &other, &other_length);
+        if (piece[0] == length)
+            expect(hifrostum_join(sum, length, other, other_length, &sum, &length), 0, "join in place");
+        expect(sum, fold(weigh(bytes, length)), "the sum of the first bytes");
+    }
+    expect(length, 40, "all of them");
+}
+
 static void judging(void)
 {
     expect(judge(NULL, 0), 2, "no bytes");
@@ -818,6 +837,7 @@ int main(void)
     group("sum_chain");
     joins();
     cuts();
+    in_place();
     group("join");
     judging();
     refusals();

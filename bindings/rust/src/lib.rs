@@ -257,8 +257,8 @@ pub fn sum_chain(buffer: &[u8], pieces: &[u32]) -> Result<Partial, Verdict> {
 ///
 /// Mind the order: 01 before 02 is 0102, and 02 before 01 is 0201. The joined length doesn't tell that
 /// the two were exchanged, and where both lengths are even the fold doesn't either. `a.length` is the
-/// place of `b`'s first byte in the whole: compare the two before you join. A piece left out, or joined
-/// twice, does show in the length.
+/// place of `b`'s first byte in the whole. Join only where the two are equal, and the sum is that of the
+/// first bytes, whatever came and in whatever order.
 ///
 /// ```
 /// use hifrostum::{join, sum_chain, Fold};

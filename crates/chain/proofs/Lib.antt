@@ -2,3 +2,4 @@
 pub mod Lists
 pub mod Along
 pub mod Chains
+pub mod Drivers
