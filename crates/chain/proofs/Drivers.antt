@@ -3,16 +3,19 @@ use Prim.Native.Nat.{ℕ, _+_, _≤_}
 use mathlib.Core.Path.{_≡_, sym, ap, _∙_}
 use mathlib.Core.List.{List, [], _∷_, _++_}
 use mathlib.Core.Bool.{true}
+use native.Mathlib.Nat.{add-zero, zero-add}
 use native.Mathlib.Omega.{arith}
 use lib.ListN.{length, take, drop, length-take, length-drop}
 use lib.Seq.{take-add}
-use borrow.Author.Tests.{eqb-true}
+use borrow.Author.Tests.{eqb-true, eq-eqb}
+use Rattle.verdicts.specs.Choice.{if_then_else_}
 use Rattle.verdicts.proofs.Tests.{by-cases}
 use Rattle.sums.specs.Partials.{partialOf, nothing, joined, longest, joinOf}
 use Rattle.sums.specs.declared.Partial.{Partial}
 use Rattle.sums.proofs.Joins.{join-strings, join-good, empty-partial}
+use Rattle.chain.specs.Sizes.{sizes}
 use Rattle.chain.specs.Driver.{Piece, pieceOf, inPlace, driven}
-use Rattle.chain.proofs.Chains.{Inside}
+use Rattle.chain.proofs.Chains.{Inside, numbersOf, lengthOf}
 
 module _ (buffer : List ℕ) (short : length buffer ≤ longest) where
   -- s is the sum of the first bytes
@@ -20,13 +23,16 @@ module _ (buffer : List ℕ) (short : length buffer ≤ longest) where
     within : s .length ≤ length buffer
     is : s ≡ partialOf (take (s .length) buffer)
 
+  piece-length : (p : Piece) → p .0 + p .1 ≤ length buffer → length (take (p .1) (drop (p .0) buffer)) ≡ p .1
+  piece-length p h = omega (arith, length-take (p .1) (drop (p .0) buffer), length-drop (p .0) buffer)
+
   first-joined : (s : Partial) (p : Piece) → First s → p .0 + p .1 ≤ length buffer → inPlace s p ≡ true → First (joinOf s (pieceOf buffer p) .sum)
   unfolding inPlace
   first-joined s p f h t =
       let piece = take (p .1) (drop (p .0) buffer) in
       let w = f .within in
       let e = eqb-true (s .length) (p .0) t in
-      let size : length piece ≡ p .1 = omega (arith, length-take (p .1) (drop (p .0) buffer), length-drop (p .0) buffer) in
+      let size = piece-length p h in
       rw (ap (λ q. q .sum) (join-good s (partialOf piece) (omega arith)))
       (record {
         within = omega arith;
@@ -52,3 +58,28 @@ module _ (buffer : List ℕ) (short : length buffer ≤ longest) where
   joined-in-place ps h =
       let f = driven-first nothing ps (record { within = omega arith; is = sym empty-partial }) h in
       (f .within, f .is)
+
+  -- and it leaves out no piece that comes in order
+  abbrev pub InOrder : ℕ → List Piece → Type 0
+  InOrder at [] = Unit
+  InOrder at (p ∷ ps) = (at ≡ p .0) × InOrder (at + p .1) ps
+
+  next-joined : (s : Partial) (p : Piece) → p .0 + p .1 ≤ length buffer → s .length ≡ p .0
+      → (if inPlace s p then joinOf s (pieceOf buffer p) .sum else s) ≡ joined s (pieceOf buffer p)
+  unfolding inPlace
+  next-joined s p h e =
+      let size = piece-length p h in
+      rw (eq-eqb (s .length) (p .0) e) (ap (λ q. q .sum) (join-good s (pieceOf buffer p) (omega arith)))
+
+  driven-length : (s : Partial) (ps : List Piece) → Inside (length buffer) ps → InOrder (s .length) ps → driven buffer s ps .length ≡ s .length + lengthOf ps
+  unfolding driven numbersOf sizes
+  driven-length s [] h o = sym (add-zero (s .length))
+  driven-length s (p ∷ ps) h o =
+      let size = piece-length p (h .0) in
+      ap (λ t. driven buffer t ps .length) (next-joined s p (h .0) (o .0))
+      ∙ driven-length (joined s (pieceOf buffer p)) ps (h .1) (rw size (o .1))
+      ∙ omega arith
+
+  pub joined-in-order : (ps : List Piece) → Inside (length buffer) ps → InOrder 0 ps → driven buffer nothing ps ≡ partialOf (take (lengthOf ps) buffer)
+  joined-in-order ps h o =
+      joined-in-place ps h .1 ∙ ap (λ n. partialOf (take n buffer)) (driven-length nothing ps h o ∙ zero-add (lengthOf ps))
