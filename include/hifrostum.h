@@ -29,7 +29,7 @@ extern "C" {
 
 /* The version of this surface. It goes up by one whenever a function, a constant, or what an answer
  * means is added, changed or taken away; CHANGELOG.md says what a host's author must do then. */
-#define HIFROSTUM_SURFACE_VERSION 2
+#define HIFROSTUM_SURFACE_VERSION 3
 
 /* What a call answers. */
 enum hifrostum_verdict {
@@ -117,7 +117,9 @@ uint8_t hifrostum_join(uint16_t fold_a, uint64_t length_a, uint16_t fold_b, uint
  * comes first. Refuses nothing. */
 uint16_t hifrostum_field(const uint8_t *bytes, size_t len);
 
-/* The field after the words under it changed from one fold to another, by equation 3 of RFC 1624.
+/* The field after the words under it changed from one fold to another: equation 3 of RFC 1624, but
+ * 0000 where that answers FFFF. So if the sum was right, this is the field worked out anew, unless
+ * all that it covers becomes 0; if the sum was wrong, it stays so.
  * Mind the kinds: the first is a field, the other two are folds. Refuses nothing.
  *
  * A fold is 65535 minus hifrostum_field of the bytes, or what hifrostum_sum_chain answers where they

@@ -4,7 +4,7 @@ use mathlib.Core.Logic.{inl, inr}
 use Prim.Native.Nat.{ℕ, suc, _+_, _-_, _<_, _≤_}
 use native.Mathlib.Omega.{arith}
 use mathlib.Core.List.{List, [], _∷_}
-use mathlib.Core.Bool.{Bool, true, false, true≢false}
+use mathlib.Core.Bool.{Bool, true, false, not, _&&_, true≢false}
 use lib.ListN.{length}
 use lib.Dec.{eqb}
 use borrow.Author.Tests.{ltb-false, eqb-false, eq-eqb, ne-eqb}
@@ -13,7 +13,7 @@ use Rattle.verdicts.proofs.Tests.{by-cases, or-false}
 use Rattle.sums.specs.Total.{weigh, total}
 use Rattle.wire.specs.Bytes.{part, put, putWord, Bytes}
 use Rattle.wire.specs.Outer.{addressesAt, four, headerField, protocolOf}
-use Rattle.wire.specs.Inner.{bodyOf, endOf, fieldAt, lengthOf, pseudo, startOf}
+use Rattle.wire.specs.Inner.{bodyOf, endOf, fieldAt, lengthOf, pseudo, silentOf, startOf}
 use Rattle.wire.proofs.Facts.{Facts}
 use Rattle.wire.proofs.Writes.{bytes-wrote, put-wrote, word-above, word-below}
 use Rattle.wire.proofs.Same.{Same, same-self, same-step, soft-header, soft-message}
@@ -22,9 +22,10 @@ use Rattle.cover.proofs.Totals.{addressTotal, restTotal, message-parts}
 use Rattle.cover.proofs.Blocks.{header-out, message-out, message-address, message-in, message-some}
 use Rattle.judge.proofs.Kept.{Accepted}
 use Rattle.mend.specs.Mend.{Outside}
-use Rattle.mend.proofs.Fresh.{sameF, header-carry, message-carry, header-self, message-self}
+use Rattle.mend.proofs.Fresh.{sameF}
 use Rattle.kept.specs.Update.{messageAfter}
 use Rattle.kept.specs.Edits.{Addressed, addressLeft, allZero, blank, stretchRules, stretchLeft}
+use Rattle.kept.proofs.Done.{header-carry, message-carry, header-self, message-self}
 use Rattle.kept.proofs.Steps.{Kept, header-step, message-step}
 
 -- ---- the address
@@ -35,7 +36,7 @@ addresses-low p =
     (λ f. simp f (omega arith, λ g. absurd (true≢false (sym g))))
 
 module _ (p : List ℕ) (by : Bytes p) (c : Accepted p) (at : ℕ) (new : List ℕ) (bn : Bytes new) (l : Addressed p at (length new)) where
-  pub address-step : Kept p (addressLeft p at new) at new
+  pub address-step : Kept (four p) (pseudo p && not (silentOf p)) p (addressLeft p at new) at new
   address-step =
       let k = c .facts in
       let z = same-self p in
@@ -99,7 +100,7 @@ module _ {p q : List ℕ} (k : Facts p) (a : Same p q) where
 
 module _ (p : List ℕ) (by : Bytes p) (c : Accepted p) (place : ℕ) where
   stretch-some : (new : List ℕ) → Bytes new → 0 < length new → clear (stretchRules p place new)
-      → Kept p (messageAfter p (bodyOf p + place - startOf p) (bodyOf p + place) new (put p (bodyOf p + place) new)) (bodyOf p + place) new
+      → Kept false (not (silentOf p)) p (messageAfter p (bodyOf p + place - startOf p) (bodyOf p + place) new (put p (bodyOf p + place) new)) (bodyOf p + place) new
   stretch-some new bn some r =
       let k = c .facts in
       let at = bodyOf p + place in
@@ -126,7 +127,8 @@ module _ (p : List ℕ) (by : Bytes p) (c : Accepted p) (place : ℕ) where
         fits = omega arith;
       }
 
-  pub stretch-step : (new : List ℕ) → Bytes new → clear (stretchRules p place new) → Kept p (stretchLeft p (bodyOf p + place) new) (bodyOf p + place) new
+  pub stretch-step : (new : List ℕ) → Bytes new → clear (stretchRules p place new)
+      → Kept false (not (eqb (length new) 0) && not (silentOf p)) p (stretchLeft p (bodyOf p + place) new) (bodyOf p + place) new
   unfolding put
   stretch-step [] bn r =
       let k = c .facts in

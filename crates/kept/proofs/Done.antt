@@ -1,27 +1,43 @@
--- A block with a part replaced and its field updated keeps its verdict, and a fresh field stays fresh.
+-- What the writes of an edit keep of a sum whose field they update, and of one whose field they leave.
 use mathlib.Core.Path.{_≡_, refl, sym, ap, _∙_}
 use Prim.Native.Nat.{ℕ, _+_, _<_}
 use native.Mathlib.Omega.{arith}
 use mathlib.Core.List.{List}
-use mathlib.Core.Bool.{false}
+use mathlib.Core.Bool.{Bool, true, false, not, true≢false}
 use lib.ListN.{length}
 use Rattle.sums.specs.Total.{odd, weigh}
 use Rattle.wire.specs.Bytes.{wordAt, part, putWord, Bytes}
-use Rattle.wire.specs.Outer.{headerField}
+use Rattle.wire.specs.Outer.{four, headerField}
 use Rattle.wire.specs.Inner.{fieldAt, silentOf, udp}
 use Rattle.wire.proofs.Facts.{OuterFacts, Facts}
 use Rattle.wire.proofs.Writes.{word-small, word-wrote}
 use Rattle.wire.proofs.Same.{Same, silent-at, field-same, four-same, same-self}
 use Rattle.cover.specs.Sums.{headerTotal, messageTotal, headerSums, messageSums}
 use Rattle.cover.proofs.Blocks.{header-word, message-field, header-some}
-use Rattle.mend.specs.Fresh.{sent, freshHeader}
+use Rattle.judge.proofs.Answers.{sums4}
+use Rattle.judge.proofs.Kept.{Heard}
+use Rattle.mend.specs.Fresh.{sent, freshHeader, HeaderFresh, MessageFresh}
 use Rattle.mend.proofs.Numbers.{pass-alike, sent-some, block-alike, block-fresh}
-use Rattle.mend.proofs.Fresh.{HeaderKept, MessageKept, writeH, writeF, sameH, sameF, asideH, asideF, freshF}
+use Rattle.mend.proofs.Fresh.{writeH, writeF, sameH, sameF, asideH, asideF, freshF, header-right, message-right, header-fresh, silent-carry, message-fresh}
 use Rattle.kept.specs.Update.{updatedAt}
 
+-- from p to q; u says whether the field is updated
+pub record HeaderKept (u : Bool) (p q : List ℕ) : Type 0 where
+  pub sums : headerSums q ≡ headerSums p
+  pub fresh : HeaderFresh p → HeaderFresh q
+  pub renewed : u ≡ true → headerSums p ≡ true → HeaderFresh q
+  pub stays : u ≡ false → four p ≡ true → wordAt q headerField ≡ wordAt p headerField
+
+pub record MessageKept (u : Bool) (p q : List ℕ) : Type 0 where
+  pub heard : Heard p q
+  pub fresh : MessageFresh p → MessageFresh q
+  pub renewed : u ≡ true → messageSums p ≡ true → MessageFresh q
+  pub stays : u ≡ false → wordAt q (fieldAt p) ≡ wordAt p (fieldAt p)
+
+-- ---- the field is updated
 module _ {p q : List ℕ} (k : OuterFacts p) (by : Bytes p) (a : Same p q) (at : ℕ) (new : List ℕ) where
   pub header-done : headerTotal q + weigh (odd at) (part p at (length new)) ≡ headerTotal p + weigh (odd at) new
-      → wordAt q headerField ≡ wordAt p headerField → HeaderKept p (putWord q headerField (updatedAt p headerField at at new))
+      → wordAt q headerField ≡ wordAt p headerField → HeaderKept (four p) p (putWord q headerField (updatedAt p headerField at at new))
   unfolding updatedAt headerSums freshHeader sent
   header-done t e =
       let v = updatedAt p headerField at at new in
@@ -31,19 +47,25 @@ module _ {p q : List ℕ} (k : OuterFacts p) (by : Bytes p) (a : Same p q) (at :
       let f' : headerTotal r + wordAt p headerField ≡ headerTotal q + v = rw e at f in
       let w : wordAt r headerField ≡ v = word-wrote v (writeH k a v) in
       let z = same-self p in
-      let x = block-alike (headerTotal p) (headerTotal q) (headerTotal r) _ _ (wordAt p headerField) v false (word-small p headerField by) t f' refl in
+      let hc = word-small p headerField by in
+      let x = block-alike (headerTotal p) (headerTotal q) (headerTotal r) _ _ (wordAt p headerField) v false hc t f' refl in
+      let renewed : headerSums p ≡ true → HeaderFresh r =
+      λ s y.
+      w ∙ block-fresh (headerTotal p) (headerTotal q) (headerTotal r) _ _ (wordAt p headerField) v false hc t f' refl
+      (headerTotal (putWord p headerField 0)) (headerTotal (putWord r headerField 0)) (asideH k z) (ap (λ n. headerTotal (putWord r headerField 0) + n) (sym w) ∙ asideH k sr)
+      (header-some k (sameH k sr 0)) (sums4 p (sym (four-same (sr .header)) ∙ y) ∙ s) in
       record {
         sums = rw (four-same (sr .header), pass-alike (headerTotal r) (headerTotal p) (header-some k sr) (header-some k z) x);
-        fresh = λ g y.
-            w ∙ block-fresh (headerTotal p) (headerTotal q) (headerTotal r) (headerTotal (putWord p headerField 0)) (headerTotal (putWord r headerField 0)) _ _ (wordAt p headerField) v false
-            t f' refl (asideH k z) (ap (λ n. headerTotal (putWord r headerField 0) + n) (sym w) ∙ asideH k sr) (header-some k (sameH k sr 0)) (g (sym (four-same (sr .header)) ∙ y));
+        fresh = λ g. renewed (header-right k g);
+        renewed = λ u. renewed;
+        stays = λ n f. absurd (true≢false (sym f ∙ n));
       }
 
 module _ {p q : List ℕ} (k : Facts p) (by : Bytes p) (a : Same p q) (at : ℕ) (new : List ℕ) where
   pub message-done : (pos : ℕ) → messageTotal q + weigh (odd pos) (part p at (length new)) ≡ messageTotal p + weigh (odd pos) new
       → wordAt q (fieldAt p) ≡ wordAt p (fieldAt p) → silentOf p ≡ false
       → 0 < messageTotal (putWord p (fieldAt p) 0) → 0 < messageTotal (putWord q (fieldAt p) 0)
-      → MessageKept p (putWord q (fieldAt p) (sent (udp p) (updatedAt p (fieldAt p) pos at new)))
+      → MessageKept (not (silentOf p)) p (putWord q (fieldAt p) (sent (udp p) (updatedAt p (fieldAt p) pos at new)))
   unfolding updatedAt messageSums
   message-done pos t e s some0 some1 =
       let v = sent (udp p) (updatedAt p (fieldAt p) pos at new) in
@@ -58,17 +80,22 @@ module _ {p q : List ℕ} (k : Facts p) (by : Bytes p) (a : Same p q) (at : ℕ)
       let q0 = messageTotal (putWord q (fieldAt p) 0) in
       let some2 : 0 < r0 =
       there r0 v (messageTotal r) (wordAt p (fieldAt p)) (messageTotal q) q0 c f' (ap (λ n. q0 + n) (sym e) ∙ asideF k a) some1 in
-      let x = block-alike (messageTotal p) (messageTotal q) (messageTotal r) _ _ (wordAt p (fieldAt p)) v (udp p) (word-small p (fieldAt p) by) t f' refl in
+      let hc = word-small p (fieldAt p) by in
+      let x = block-alike (messageTotal p) (messageTotal q) (messageTotal r) _ _ (wordAt p (fieldAt p)) v (udp p) hc t f' refl in
+      let renewed : messageSums p ≡ true → MessageFresh r =
+      λ m u.
+      ap (wordAt r) (field-same (sr .header)) ∙ w
+      ∙ block-fresh (messageTotal p) (messageTotal q) (messageTotal r) _ _ (wordAt p (fieldAt p)) v (udp p) hc t f' refl
+      (messageTotal (putWord p (fieldAt p) 0)) r0 z c some2 m
+      ∙ sym (freshF k sr) in
       record {
         heard = record {
           silent = silent-at sr k ∙ rw w (sent-some (udp p) (updatedAt p (fieldAt p) pos at new)) ∙ sym s;
           sums = λ g. pass-alike (messageTotal r) (messageTotal p) (more r0 v (messageTotal r) c some2) (more _ _ (messageTotal p) z some0) x;
         };
-        fresh = λ g u.
-            ap (wordAt r) (field-same (sr .header)) ∙ w
-            ∙ block-fresh (messageTotal p) (messageTotal q) (messageTotal r) (messageTotal (putWord p (fieldAt p) 0)) r0 _ _ (wordAt p (fieldAt p)) v (udp p)
-            t f' refl z c some2 (g (simp s) ∙ freshF k (same-self p))
-            ∙ sym (freshF k sr);
+        fresh = λ g. renewed (message-right k g s);
+        renewed = λ u. renewed;
+        stays = λ n. absurd (true≢false (simp s at n));
       }
     where
       more : (a b c : ℕ) → a + b ≡ c → 0 < a → 0 < c
@@ -76,3 +103,32 @@ module _ {p q : List ℕ} (k : Facts p) (by : Bytes p) (a : Same p q) (at : ℕ)
 
       there : (r0 v r hc q q0 : ℕ) → r0 + v ≡ r → r + hc ≡ q + v → q0 + hc ≡ q → 0 < q0 → 0 < r0
       there r0 v r hc q q0 h1 h2 h3 h4 = omega arith
+
+-- ---- total and field are left as they are
+module _ {p q r : List ℕ} {u : Bool} (k : OuterFacts p) (a : Same p q) (b : Same p r)
+    (t : headerTotal r ≡ headerTotal q) (e : wordAt r headerField ≡ wordAt q headerField) where
+  pub header-carry : HeaderKept u p q → HeaderKept u p r
+  unfolding headerSums
+  header-carry h =
+      let y : headerSums r ≡ headerSums q = rw (four-same (b .header), t, four-same (a .header)) in
+      let fresh = header-fresh k a b t e in
+      record { sums = y ∙ h .sums; fresh = λ g. fresh (h .fresh g); renewed = λ n s. fresh (h .renewed n s); stays = λ n f. e ∙ h .stays n f }
+
+module _ {p q r : List ℕ} {u : Bool} (k : Facts p) (a : Same p q) (b : Same p r)
+    (t : messageTotal r ≡ messageTotal q) (e : wordAt r (fieldAt p) ≡ wordAt q (fieldAt p)) where
+  pub message-carry : MessageKept u p q → MessageKept u p r
+  unfolding messageSums
+  message-carry h =
+      let fresh = message-fresh k a b t e in
+      record {
+        heard = record { silent = silent-carry k a b e ∙ h .heard .silent; sums = λ s. rw t (h .heard .sums s) };
+        fresh = λ g. fresh (h .fresh g);
+        renewed = λ n s. fresh (h .renewed n s);
+        stays = λ n. e ∙ h .stays n;
+      }
+
+pub header-self : (p : List ℕ) → HeaderKept false p p
+header-self p = record { sums = refl; fresh = λ g. g; renewed = λ n. absurd (true≢false (sym n)); stays = λ n f. refl }
+
+pub message-self : (p : List ℕ) → MessageKept false p p
+message-self p = record { heard = record { silent = refl; sums = λ s. refl }; fresh = λ g. g; renewed = λ n. absurd (true≢false (sym n)); stays = λ n. refl }

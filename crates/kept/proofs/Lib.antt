@@ -6,4 +6,5 @@ pub mod Changes
 pub mod Single
 pub mod Exactly
 pub mod Sequences
+pub mod Edited
 pub mod Examples

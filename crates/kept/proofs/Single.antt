@@ -4,6 +4,7 @@ use mathlib.Core.Logic.{_⊎_, ⊎-elim}
 use Prim.Native.Nat.{ℕ, _+_, _<_, _≤_}
 use native.Mathlib.Omega.{arith}
 use mathlib.Core.List.{List}
+use mathlib.Core.Bool.{Bool, not}
 use lib.ListN.{length}
 use Rattle.verdicts.specs.Rules.{first, clear}
 use Rattle.verdicts.specs.declared.Verdict.{Verdict}
@@ -23,6 +24,7 @@ use Rattle.mend.specs.Mend.{mendOf, Outside}
 use Rattle.mend.proofs.Mending.{whole-good, mend-fresh}
 use Rattle.kept.specs.Edits.{editRules, lifetimeRules, lifetimeLeft, lifetimeOf, sideAt, addressRules, addressLeft, addressOf, stretchRules, stretchLeft, stretchOf}
 use Rattle.kept.specs.Runs.{Fit, Edit, lifetime, address, stretch, apply, rulesOf, placeOf, newOf}
+use Rattle.kept.specs.Fields.{Sum, header, message, used, updates, Right}
 use Rattle.kept.proofs.Sides.{side-addressed}
 use Rattle.kept.proofs.Steps.{accepted, Kept, lifetime-step}
 use Rattle.kept.proofs.Changes.{address-step, stretch-step}
@@ -62,7 +64,8 @@ accepted-clear e p g = call-clear (rulesOf e p) p (made e p) (refusals e) (ap (�
     refusals (stretch place new) = omega arith
 
 -- ---- what an accepted one leaves
-pub kept : (e : Edit) (p : List ℕ) → Fit e → Bytes p → clear (rulesOf e p) → Kept p (made e p) (placeOf e p) (newOf e p)
+pub kept : (e : Edit) (p : List ℕ) → Fit e → Bytes p → clear (rulesOf e p)
+    → Kept (updates header e p) (updates message e p) p (made e p) (placeOf e p) (newOf e p)
 kept lifetime p f b c =
     let d = clear-both (editRules p) (lifetimeRules p) c in
     lifetime-step p b (accepted p (d .0))
@@ -102,11 +105,32 @@ pub record Still (p q : List ℕ) : Type 0 where
   pub mended : mendOf p .1 ≡ p → mendOf q .1 ≡ q
   pub long : length q ≡ length p
   pub outside : (i : ℕ) → Outside p i → Outside q i
+  pub uses : (s : Sum) → used s q ≡ used s p
+  pub right : (s : Sum) → Right s p → Right s q
+
+module _ {h m : Bool} {p q : List ℕ} {at : ℕ} {new : List ℕ} (k : Kept h m p q at new) where
+  kept-uses : (s : Sum) → used s q ≡ used s p
+  kept-uses header = four-same (k .same .header)
+  kept-uses message = ap not (k .message .heard .silent)
+
+  kept-right : (s : Sum) → Right s p → Right s q
+  kept-right header r = k .header .sums ∙ r
+  kept-right message r = λ n. let u = sym (k .message .heard .silent) ∙ n in k .message .heard .sums u ∙ r u
 
 pub still : (e : Edit) (p : List ℕ) → Fit e → Bytes p → Still p (apply e p .1)
 still e p f b =
     edit-either e p (Still p)
-    (record { bytes = b; judged = refl; header = λ h. h; message = λ h. h; mended = λ h. h; long = refl; outside = λ i o. o })
+    (record {
+      bytes = b;
+      judged = refl;
+      header = λ h. h;
+      message = λ h. h;
+      mended = λ h. h;
+      long = refl;
+      outside = λ i o. o;
+      uses = λ s. refl;
+      right = λ s r. r;
+    })
     (λ c.
     let k = kept e p f b c in
     let s = k .same in
@@ -121,4 +145,6 @@ still e p f b =
           mend-fresh (made e p) (k .bytes) (whole-good (made e p) (rw (whole-same s) w)) .1 (k .header .fresh (g .0), k .message .fresh (g .1));
       long = s .long;
       outside = λ i o. record { header = λ g. o .header (sym (four-same (s .header)) ∙ g); message = rw (field-same (s .header)) (o .message) };
+      uses = kept-uses k;
+      right = kept-right k;
     })

@@ -1,16 +1,17 @@
 -- What an edit keeps: the steps that update the header's field and the message's, and the lifetime edit as a whole.
-use mathlib.Core.Path.{_≡_, refl, sym, _∙_}
+use mathlib.Core.Path.{_≡_, refl, sym, ap, _∙_}
 use mathlib.Core.Logic.{_⊎_, inl, ⊎-elim}
 use Prim.Native.Nat.{ℕ, zero, suc, _+_, _<_, _≤_}
 use native.Mathlib.Omega.{arith}
 use mathlib.Core.List.{List}
-use mathlib.Core.Bool.{true, false, true≢false}
+use mathlib.Core.Bool.{Bool, true, false, not, true≢false}
 use lib.ListN.{length}
 use Rattle.verdicts.specs.Rules.{clear}
 use Rattle.verdicts.proofs.Tests.{by-cases}
 use Rattle.verdicts.proofs.Rules.{clear-both}
 use Rattle.sums.specs.Total.{odd, weigh}
-use Rattle.sums.specs.Update.{updated}
+use Rattle.sums.specs.Fold.{fold}
+use Rattle.sums.proofs.Updates.{update-small}
 use Rattle.wire.specs.Bytes.{byteAt, wordAt, part, put, putWord, Bytes}
 use Rattle.wire.specs.Outer.{addressesAt, four, headerEnd, headerField, lifetimeAt}
 use Rattle.wire.specs.Inner.{fieldAt, silentOf, udp, wholeRules}
@@ -24,10 +25,10 @@ use Rattle.judge.proofs.Kept.{Accepted, accepted-whole}
 use Rattle.mend.specs.Fresh.{sent}
 use Rattle.mend.specs.Mend.{Outside}
 use Rattle.mend.proofs.Numbers.{sent-small}
-use Rattle.mend.proofs.Fresh.{HeaderKept, MessageKept, writeH, writeF, sameH, sameF, header-carry, silent-carry, message-carry, message-self}
+use Rattle.mend.proofs.Fresh.{writeH, writeF, sameH, sameF, silent-carry}
 use Rattle.kept.specs.Update.{updatedAt, headerAfter, messageAfter}
 use Rattle.kept.specs.Edits.{editRules, lowered}
-use Rattle.kept.proofs.Done.{header-done, message-done}
+use Rattle.kept.proofs.Done.{HeaderKept, MessageKept, header-done, message-done, header-carry, message-carry, message-self}
 
 -- a packet that no rule of the edits' common order refuses: a silent one is IPv4's
 pub accepted : (p : List ℕ) → clear (editRules p) → Accepted p
@@ -39,20 +40,20 @@ accepted p c =
     (λ f. f)
     (λ f. absurd (true≢false (simp (u, f) at (w .1 .0)))))
 
--- what an edit leaves: new bytes at a place, and beside them only the fields
-pub record Kept (p q : List ℕ) (at : ℕ) (new : List ℕ) : Type 0 where
+-- what an edit leaves: new bytes at a place, and beside them only the fields; h and m say whether the header's and the message's are updated
+pub record Kept (h m : Bool) (p q : List ℕ) (at : ℕ) (new : List ℕ) : Type 0 where
   pub accepts : Accepted p
   pub same : Same p q
   pub bytes : Bytes q
-  pub header : HeaderKept p q
-  pub message : MessageKept p q
+  pub header : HeaderKept h p q
+  pub message : MessageKept m p q
   pub others : (i : ℕ) → Outside p i → byteAt q i ≡ byteAt (put p at new) i
   pub apart : (i : ℕ) → at ≤ i → i < at + length new → Outside p i
   pub fits : at + length new ≤ length p
 
 updated-bytes : (p : List ℕ) (f pos at : ℕ) (new : List ℕ) → updatedAt p f pos at new ≤ 65535
-unfolding updatedAt updated
-updated-bytes p f pos at new = omega arith
+unfolding updatedAt
+updated-bytes p f pos at new = omega (arith, update-small (wordAt p f) (fold (weigh (odd pos) (part p at (length new)))) (fold (weigh (odd pos) new)))
 
 -- ---- the header's field
 module _ {p q : List ℕ} (k : Facts p) (by : Bytes p) (a : Same p q) (bq : Bytes q) (at : ℕ) (new : List ℕ) (w : Wrote p q at new)
@@ -60,7 +61,7 @@ module _ {p q : List ℕ} (k : Facts p) (by : Bytes p) (a : Same p q) (bq : Byte
   pub record HeaderStep (r : List ℕ) : Type 0 where
     pub same : Same p r
     pub bytes : Bytes r
-    pub kept : HeaderKept p r
+    pub kept : HeaderKept (four p) p r
     pub total : messageTotal r ≡ messageTotal q
     pub word : wordAt r (fieldAt p) ≡ wordAt q (fieldAt p)
     pub others : (i : ℕ) → (four p ≡ true → (i < headerField) ⊎ (headerField + 1 < i)) → byteAt r i ≡ byteAt q i
@@ -86,7 +87,12 @@ module _ {p q : List ℕ} (k : Facts p) (by : Bytes p) (a : Same p q) (bq : Byte
       record {
         same = a;
         bytes = bq;
-        kept = record { sums = rw (four-same (a .header), f); fresh = λ g h. absurd (true≢false (sym h ∙ four-same (a .header) ∙ f)) };
+        kept = record {
+          sums = rw (four-same (a .header), f);
+          fresh = λ g h. absurd (true≢false (sym h ∙ four-same (a .header) ∙ f));
+          renewed = λ u. absurd (true≢false (sym u ∙ f));
+          stays = λ n u. absurd (true≢false (sym u ∙ f));
+        };
         total = refl;
         word = refl;
         others = λ i o. refl;
@@ -97,15 +103,15 @@ module _ {p q : List ℕ} (k : Facts p) (by : Bytes p) (a : Same p q) (bq : Byte
   header-step = by-cases (four p) (λ f. simp f (header-step4 f)) (λ f. simp f (header-step6 f))
 
 -- ---- the message's field
-module _ {p q : List ℕ} (k : Facts p) (by : Bytes p) (a : Same p q) (bq : Bytes q) (pos at : ℕ) (new : List ℕ)
+module _ {p q : List ℕ} {hu : Bool} (k : Facts p) (by : Bytes p) (a : Same p q) (bq : Bytes q) (pos at : ℕ) (new : List ℕ)
     (total : messageTotal q + weigh (odd pos) (part p at (length new)) ≡ messageTotal p + weigh (odd pos) new)
-    (word : wordAt q (fieldAt p) ≡ wordAt p (fieldAt p)) (h : HeaderKept p q)
+    (word : wordAt q (fieldAt p) ≡ wordAt p (fieldAt p)) (h : HeaderKept hu p q)
     (some0 : 0 < messageTotal (putWord p (fieldAt p) 0)) (some1 : 0 < messageTotal (putWord q (fieldAt p) 0)) (quiet : silentOf p ≡ true → four p ≡ true) where
   pub record MessageStep (r : List ℕ) : Type 0 where
     pub same : Same p r
     pub bytes : Bytes r
-    pub header : HeaderKept p r
-    pub kept : MessageKept p r
+    pub header : HeaderKept hu p r
+    pub kept : MessageKept (not (silentOf p)) p r
     pub others : (i : ℕ) → (i < fieldAt p) ⊎ (fieldAt p + 1 < i) → byteAt r i ≡ byteAt q i
 
   message-summed : silentOf p ≡ false → MessageStep (putWord q (fieldAt p) (sent (udp p) (updatedAt p (fieldAt p) pos at new)))
@@ -131,6 +137,8 @@ module _ {p q : List ℕ} (k : Facts p) (by : Bytes p) (a : Same p q) (bq : Byte
         kept = record {
           heard = record { silent = z; sums = λ g. absurd (true≢false (sym u ∙ g)) };
           fresh = λ f g. absurd (true≢false (simp (z ∙ u, four-same (a .header) ∙ quiet u) at g));
+          renewed = λ n. absurd (true≢false (sym n ∙ ap not u));
+          stays = λ n. word;
         };
         others = λ i o. refl;
       }
@@ -147,7 +155,7 @@ life-places p =
     (λ f. simp f (omega arith, omega arith, omega arith, λ g. absurd (true≢false (sym g))))
 
 module _ (p : List ℕ) (by : Bytes p) (c : Accepted p) where
-  pub lifetime-step : Kept p (headerAfter p (lifetimeAt p) (lowered p) (put p (lifetimeAt p) (lowered p))) (lifetimeAt p) (lowered p)
+  pub lifetime-step : Kept (four p) false p (headerAfter p (lifetimeAt p) (lowered p) (put p (lifetimeAt p) (lowered p))) (lifetimeAt p) (lowered p)
   lifetime-step =
       let k = c .facts in
       let at = lifetimeAt p in

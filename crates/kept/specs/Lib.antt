@@ -2,4 +2,5 @@
 pub mod Update
 pub mod Edits
 pub mod Runs
+pub mod Fields
 pub mod Cases

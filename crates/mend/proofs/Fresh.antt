@@ -1,10 +1,10 @@
--- Fields that stand fresh, and what keeps the header's and the message's sums as they were.
+-- Fields that stand fresh: their sums are right, and what keeps them so.
 use mathlib.Core.Path.{_≡_, refl, sym, ap, ap₂, _∙_}
 use mathlib.Core.Logic.{inr}
 use Prim.Native.Nat.{ℕ, _+_, _/_, _%_}
 use native.Mathlib.Omega.{arith}
 use mathlib.Core.List.{List, [], _∷_}
-use mathlib.Core.Bool.{_&&_}
+use mathlib.Core.Bool.{true, false, _&&_}
 use Rattle.verdicts.proofs.Tests.{by-cases}
 use Rattle.sums.specs.Fold.{fold, fieldOf}
 use Rattle.wire.specs.Bytes.{wordAt, putWord}
@@ -15,17 +15,10 @@ use Rattle.wire.proofs.Writes.{Wrote, put-wrote}
 use Rattle.wire.proofs.Same.{Same, field-same, four-same, same-self, same-step, silent-at, soft-header, soft-message, udp-same}
 use Rattle.cover.specs.Sums.{headerTotal, messageTotal, headerSums, messageSums}
 use Rattle.cover.proofs.Blocks.{header-word, message-field}
-use Rattle.judge.proofs.Kept.{Heard}
+use Rattle.judge.proofs.Answers.{sums4, sums6}
 use Rattle.mend.specs.Mend.{mendedHeader}
 use Rattle.mend.specs.Fresh.{sent, freshHeader, freshMessage, HeaderFresh, MessageFresh}
-
-pub record HeaderKept (p q : List ℕ) : Type 0 where
-  pub sums : headerSums q ≡ headerSums p
-  pub fresh : HeaderFresh p → HeaderFresh q
-
-pub record MessageKept (p q : List ℕ) : Type 0 where
-  pub heard : Heard p q
-  pub fresh : MessageFresh p → MessageFresh q
+use Rattle.mend.proofs.Numbers.{sent-passes}
 
 -- ---- a word written over a field; a field read as 0000
 -- the header's
@@ -54,6 +47,21 @@ module _ {p q : List ℕ} (k : Facts p) (a : Same p q) where
   unfolding freshMessage
   freshF = rw (udp-same (a .header), field-same (a .header))
 
+-- ---- a fresh field makes its sum right
+module _ {p : List ℕ} where
+  pub header-right : OuterFacts p → HeaderFresh p → headerSums p ≡ true
+  unfolding freshHeader sent
+  header-right k h =
+      by-cases (four p)
+      (λ f. sym (sums4 p f) ∙ rw (sym (asideH k (same-self p)), h f) (sent-passes (headerTotal (putWord p headerField 0)) false))
+      (λ f. sym (sums6 p f))
+
+  pub message-right : Facts p → MessageFresh p → silentOf p ≡ false → messageSums p ≡ true
+  unfolding messageSums
+  message-right k m u =
+      let z = same-self p in
+      rw (sym (asideF k z), m (simp u), freshF k z) (sent-passes (messageTotal (putWord p (fieldAt p) 0)) (udp p))
+
 -- ---- what decides: the totals, and the fields
 module _ {p q r : List ℕ} (k : OuterFacts p) (a : Same p q) (b : Same p r)
     (t : headerTotal r ≡ headerTotal q) (e : wordAt r headerField ≡ wordAt q headerField) where
@@ -62,12 +70,6 @@ module _ {p q r : List ℕ} (k : OuterFacts p) (a : Same p q) (b : Same p r)
   header-fresh h f =
       let x : headerTotal (putWord r headerField 0) ≡ headerTotal (putWord q headerField 0) = omega (arith, asideH k a, asideH k b) in
       e ∙ h (four-same (a .header) ∙ sym (four-same (b .header)) ∙ f) ∙ ap (λ t. fieldOf (fold t)) (sym x)
-
-  pub header-carry : HeaderKept p q → HeaderKept p r
-  unfolding headerSums
-  header-carry h =
-      let y : headerSums r ≡ headerSums q = rw (four-same (b .header), t, four-same (a .header)) in
-      record { sums = y ∙ h .sums; fresh = λ g. header-fresh (h .fresh g) }
 
 module _ {p q r : List ℕ} (k : Facts p) (a : Same p q) (b : Same p r) where
   pub silent-carry : wordAt r (fieldAt p) ≡ wordAt q (fieldAt p) → silentOf r ≡ silentOf q
@@ -79,20 +81,10 @@ module _ {p q r : List ℕ} (k : Facts p) (a : Same p q) (b : Same p r) where
         let x : messageTotal (putWord r (fieldAt p) 0) ≡ messageTotal (putWord q (fieldAt p) 0) = omega (arith, asideF k a, asideF k b) in
         freshF k b ∙ rw x (sym (freshF k a))
 
-    pub message-carry : MessageKept p q → MessageKept p r
-    unfolding messageSums
-    message-carry h =
+    pub message-fresh : MessageFresh q → MessageFresh r
+    message-fresh m s =
         let z : (silentOf r && four r) ≡ (silentOf q && four q) = ap₂ _&&_ (silent-carry e) (four-same (b .header) ∙ sym (four-same (a .header))) in
-        record {
-          heard = record { silent = silent-carry e ∙ h .heard .silent; sums = λ s. rw t (h .heard .sums s) };
-          fresh = λ g s. ap (wordAt r) (field-same (b .header)) ∙ e ∙ ap (wordAt q) (sym (field-same (a .header))) ∙ h .fresh g (sym z ∙ s) ∙ sym fresh-carry;
-        }
-
-pub header-self : (p : List ℕ) → HeaderKept p p
-header-self p = record { sums = refl; fresh = λ g. g }
-
-pub message-self : (p : List ℕ) → MessageKept p p
-message-self p = record { heard = record { silent = refl; sums = λ s. refl }; fresh = λ g. g }
+        ap (wordAt r) (field-same (b .header)) ∙ e ∙ ap (wordAt q) (sym (field-same (a .header))) ∙ m (sym z ∙ s) ∙ sym fresh-carry
 
 -- mending the header leaves the layout
 pub mended-same : {p : List ℕ} → OuterFacts p → Same p (mendedHeader p)

@@ -29,13 +29,13 @@ use Rattle.cover.specs.Sums.{headerTotal, messageTotal, headerSums, messageSums
 use Rattle.judge.specs.Judge.{judgeOf}
 use Rattle.judge.specs.Cases.{wholeCases}
 use Rattle.judge.proofs.Exactly.{whole-told}
-use Rattle.judge.proofs.Answers.{good, unsummed, sums4, sums6}
+use Rattle.judge.proofs.Answers.{good, unsummed, sums4}
 use Rattle.judge.proofs.Accepts.{accepted, accepting, verdict-good, verdict-unsummed}
 use Rattle.judge.proofs.Kept.{whole-facts}
 use Rattle.mend.specs.Fresh.{sent, freshHeader, freshMessage, HeaderFresh, MessageFresh}
 use Rattle.mend.specs.Mend.{mendedHeader, mendedMessage, mendOf, Outside, Full}
-use Rattle.mend.proofs.Numbers.{sent-passes, passing-fresh}
-use Rattle.mend.proofs.Fresh.{asideH, asideF, freshF}
+use Rattle.mend.proofs.Numbers.{passing-fresh}
+use Rattle.mend.proofs.Fresh.{asideH, asideF, header-right, message-right}
 use Rattle.mend.proofs.Mended.{Mended, both-set}
 
 -- ---- what it answers, and what it changes
@@ -78,27 +78,14 @@ module _ (p : List ℕ) where
   mended c = rw (done c) (both-set p c)
 
 -- ---- what the judge says of it
-module _ (p : List ℕ) (c : clear (wholeRules p)) (h : HeaderFresh p) (m : MessageFresh p) (quiet : silentOf p ≡ true → four p ≡ true) where
-  header-good : headerSums p ≡ true
-  unfolding freshHeader sent
-  header-good =
-      by-cases (four p)
-      (λ f. sym (sums4 p f) ∙ rw (sym (asideH (whole-facts p c .outer) (same-self p)), h f) (sent-passes (headerTotal (putWord p headerField 0)) false))
-      (λ f. sym (sums6 p f))
-
-  message-good : silentOf p ≡ false → messageSums p ≡ true
-  unfolding messageSums
-  message-good u =
-      let k = whole-facts p c in
-      let z = same-self p in
-      rw (sym (asideF k z), m (simp u), freshF k z) (sent-passes (messageTotal (putWord p (fieldAt p) 0)) (udp p))
-
-  fresh-judged : judgeOf p ≡ (if silentOf p then Unsummed else Good)
-  fresh-judged =
-      sym (accepting p c header-good)
-      ∙ by-cases (silentOf p)
-      (λ u. simp u (sym (unsummed p u (quiet u))))
-      (λ u. simp u (sym (good p u (message-good u))))
+fresh-judged : (p : List ℕ) → clear (wholeRules p) → HeaderFresh p → MessageFresh p → (silentOf p ≡ true → four p ≡ true)
+    → judgeOf p ≡ (if silentOf p then Unsummed else Good)
+fresh-judged p c h m quiet =
+    let k = whole-facts p c in
+    sym (accepting p c (header-right (k .outer) h))
+    ∙ by-cases (silentOf p)
+    (λ u. simp u (sym (unsummed p u (quiet u))))
+    (λ u. simp u (sym (good p u (message-right k m u))))
 
 -- afterwards the judge says good, or unsummed where UDP's 0000 over IPv4 was kept
 pub mended-judged : (p : List ℕ) → mendOf p .0 ≡ Good → judgeOf (mendOf p .1) ≡ (if silentOf p && four p then Unsummed else Good)

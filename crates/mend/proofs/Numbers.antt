@@ -1,5 +1,5 @@
 -- The arithmetic of a field in its block: as it is sent, updated, and worked out anew.
-use Prim.Native.Nat.{ℕ, zero, suc, _+_, _*_, _-_, _/_, _%_, _≤_, _<_}
+use Prim.Native.Nat.{ℕ, zero, suc, _+_, _*_, _-_, _%_, _≤_, _<_}
 use mathlib.Core.Path.{_≡_, refl, ap, _∙_}
 use mathlib.Core.Logic.{_⊎_, inl, inr}
 use mathlib.Core.Bool.{Bool, true, false, _&&_}
@@ -9,9 +9,9 @@ use lib.Dec.{eqb}
 use borrow.Author.Tests.{ne-eqb}
 use Rattle.sums.specs.Fold.{fold, fieldOf, passes}
 use Rattle.sums.specs.Update.{updated}
-use Rattle.sums.proofs.Folds.{fold-as, fold-small, fold-mod, fold-zero, fold-same, fold-fixed, mod-out, mod-in}
+use Rattle.sums.proofs.Folds.{fold-as, fold-small, fold-mod}
 use Rattle.sums.proofs.Passing.{passing, passed, fresh-passes}
-use Rattle.sums.proofs.Updates.{update-keeps}
+use Rattle.sums.proofs.Updates.{block-keeps, update-renews}
 use Rattle.mend.specs.Fresh.{sent}
 
 -- two totals alike mod 65535, neither of them 0, pass alike
@@ -41,96 +41,16 @@ sent-mod : (u : Bool) (w : ℕ) → sent u w % 65535 ≡ w % 65535
 sent-mod false w = unfold sent in refl
 sent-mod true w = omega (arith, sent-as w)
 
--- the block's total t, s with the new bytes in, r with the new field d in too: m and n are the old and new bytes' totals
-alike : (t s r m n a b hc f d : ℕ) → s + m ≡ t + n → r + hc ≡ s + d → d % 65535 ≡ f % 65535 → (f + b) % 65535 ≡ (hc + a) % 65535
-    → a % 65535 ≡ m % 65535 → b % 65535 ≡ n % 65535 → r % 65535 ≡ t % 65535
-alike t s r m n a b hc f d h1 h2 h3 h4 h5 h6 =
-    mod-in r t _ _ (sums (f / 65535) (d / 65535) ((hc + a) / 65535) ((f + b) / 65535) (m / 65535) (a / 65535) (n / 65535) (b / 65535)
-    h1 h2 (mod-out d f h3) (mod-out (f + b) (hc + a) h4) (mod-out a m h5) (mod-out b n h6))
-  where
-    sums : (i1 j1 i2 j2 i3 j3 i4 j4 : ℕ) → s + m ≡ t + n → r + hc ≡ s + d
-        → d + 65535 * i1 ≡ f + 65535 * j1 → f + b + 65535 * i2 ≡ hc + a + 65535 * j2 → a + 65535 * i3 ≡ m + 65535 * j3 → b + 65535 * i4 ≡ n + 65535 * j4
-        → r + 65535 * (i1 + i2 + i3 + j4) ≡ t + 65535 * (j1 + j2 + j3 + i4)
-    sums i1 j1 i2 j2 i3 j3 i4 j4 e1 e2 e3 e4 e5 e6 = omega arith
+-- a block with a part replaced and its field updated: t its total, s with the new bytes in, r with the new field v in too
+module _ (t s r m n hc v : ℕ) (u : Bool) (small : hc ≤ 65535) (bytes : s + m ≡ t + n) (field : r + hc ≡ s + v) (e : v ≡ sent u (updated hc (fold m) (fold n))) where
+  pub block-alike : r % 65535 ≡ t % 65535
+  block-alike = block-keeps t r hc m n v small (ap (λ d. d % 65535) e ∙ sent-mod u (updated hc (fold m) (fold n))) (omega arith)
 
-pub update-alike : (t s r m n hc : ℕ) (u : Bool) → hc ≤ 65535 → s + m ≡ t + n
-    → r + hc ≡ s + sent u (updated hc (fold m) (fold n)) → r % 65535 ≡ t % 65535
-update-alike t s r m n hc u small bytes field =
-    alike t s r m n (fold m) (fold n) hc (updated hc (fold m) (fold n)) _ bytes field
-    (sent-mod u (updated hc (fold m) (fold n)))
-    (update-keeps hc (fold m) (fold n) small (fold-small m))
-    (fold-mod m) (fold-mod n)
-
--- a fresh field stays one: x and y are the totals but for the field, before and after; g is the complement of the field, k of the old bytes' fold
-renewed : (x y m n g k : ℕ) → 0 < y → y + m ≡ x + n → k + fold m ≡ 65535 → g % 65535 ≡ x % 65535 → (g ≡ 0 → fold m ≡ 65535 → n ≡ 0 → ⊥)
-    → fold (g + k + fold n) ≡ fold y
-renewed x y m n g k some bytes ek eg never =
-    fold-same (g + k + fold n) y (mods x y m n (fold m) (fold n) g k bytes ek eg (fold-mod m) (fold-mod n))
-    (λ z. absurd (never (omega arith) (omega arith) (fold-zero n (omega arith))))
-    (λ z. omega arith)
-  where
-    mods : (x y m n a b g k : ℕ) → y + m ≡ x + n → k + a ≡ 65535 → g % 65535 ≡ x % 65535 → a % 65535 ≡ m % 65535 → b % 65535 ≡ n % 65535
-        → (g + k + b) % 65535 ≡ y % 65535
-    mods x y m n a b g k h1 h2 h3 h4 h5 =
-        mod-in (g + k + b) y _ _ (sums x y m n a b g k (x / 65535) (g / 65535) (m / 65535) (a / 65535) (n / 65535) (b / 65535)
-        h1 h2 (mod-out g x h3) (mod-out a m h4) (mod-out b n h5))
-      where
-        sums : (x y m n a b g k i1 j1 i2 j2 i3 j3 : ℕ) → y + m ≡ x + n → k + a ≡ 65535
-            → g + 65535 * i1 ≡ x + 65535 * j1 → a + 65535 * i2 ≡ m + 65535 * j2 → b + 65535 * i3 ≡ n + 65535 * j3
-            → g + k + b + 65535 * (i1 + j2 + i3) ≡ y + 65535 * (j1 + i2 + j3 + 1)
-        sums x y m n a b g k i1 j1 i2 j2 i3 j3 e1 e2 e3 e4 e5 = omega arith
-
--- where the field is the complement of the fold
-plainly : (x y m n hc : ℕ) → 0 < y → y + m ≡ x + n → hc ≡ fieldOf (fold x) → updated hc (fold m) (fold n) ≡ fieldOf (fold y)
-unfolding updated
-plainly x y m n hc some bytes e =
-    let g : 65535 - hc ≡ fold x = omega (arith, fold-small x) in
-    ap fieldOf (renewed x y m n (65535 - hc) (65535 - fold m) some bytes (omega (arith, fold-small m)) (rw g (fold-mod x))
-    (λ z a b. omega (arith, fold-zero x (omega arith))))
-
--- where the fold is FFFF, and so is the field
-fully : (x y m n : ℕ) → 0 < y → y + m ≡ x + n → fold x ≡ 65535 → sent true (updated 65535 (fold m) (fold n)) ≡ sent true (fieldOf (fold y))
-unfolding updated
-fully x y m n some bytes e =
-    elim (ℕ-discrete (65535 - fold m + fold n) 0) [
-      | yes z ↦
-          let fm : fold m ≡ 65535 = omega (arith, fold-small m) in
-          let n0 : n ≡ 0 = fold-zero n (omega arith) in
-          let y0 : y % 65535 ≡ 0 = turned x y m (omega arith) (omega (arith, fold-mod m)) (omega (arith, fold-mod x)) in
-          let fy : fold y ≡ 65535 = omega (arith, fold-as y) in
-          let fx : fold (0 + (65535 - fold m) + fold n) ≡ 0 = ap fold (omega arith) ∙ fold-fixed 0 (omega arith) in
-          rw (fx, fy) (omega (arith, sent-as 65535, sent-as 0))
-      | no z ↦
-          ap (λ w. sent true (fieldOf w))
-          (renewed x y m n 0 (65535 - fold m) some bytes (omega (arith, fold-small m)) (omega (arith, fold-mod x)) (λ a b c. z (omega (arith, fold-as n))))
-    ]
-  where
-    turned : (x y m : ℕ) → y + m ≡ x → m % 65535 ≡ 0 → x % 65535 ≡ 0 → y % 65535 ≡ 0
-    turned x y m h k l = omega arith
-
-pub update-fresh : (x y m n hc : ℕ) (u : Bool) → 0 < y → y + m ≡ x + n
-    → hc ≡ sent u (fieldOf (fold x)) → sent u (updated hc (fold m) (fold n)) ≡ sent u (fieldOf (fold y))
-update-fresh x y m n hc false some bytes e = ap (sent false) (plainly x y m n hc some bytes (unfold sent in e))
-update-fresh x y m n hc true some bytes e =
-    elim (ℕ-discrete (fold x) 65535) [
-      | yes f ↦ let h : hc ≡ 65535 = omega (arith, sent-as (fieldOf (fold x))) in rw h (fully x y m n some bytes f)
-      | no f ↦ ap (sent true) (plainly x y m n hc some bytes (omega (arith, sent-as (fieldOf (fold x)), fold-small x)))
-    ]
-
--- a block with a part replaced and its field updated: t its total, s with the new bytes in, r with the new field v in too;
--- t0 and r0 the totals but for the field
-pub block-alike : (t s r m n hc v : ℕ) (u : Bool) → hc ≤ 65535 → s + m ≡ t + n → r + hc ≡ s + v
-    → v ≡ sent u (updated hc (fold m) (fold n)) → r % 65535 ≡ t % 65535
-block-alike t s r m n hc v u small bytes field e = update-alike t s r m n hc u small bytes (field ∙ ap (λ d. s + d) e)
-
-pub block-fresh : (t s r t0 r0 m n hc v : ℕ) (u : Bool) → s + m ≡ t + n → r + hc ≡ s + v
-    → v ≡ sent u (updated hc (fold m) (fold n)) → t0 + hc ≡ t → r0 + v ≡ r → 0 < r0
-    → hc ≡ sent u (fieldOf (fold t0)) → v ≡ sent u (fieldOf (fold r0))
-block-fresh t s r t0 r0 m n hc v u bytes field e a b some h =
-    e ∙ update-fresh t0 r0 m n hc u some (moved t s r t0 r0 m n hc v bytes field a b) h
-  where
-    moved : (t s r t0 r0 m n hc v : ℕ) → s + m ≡ t + n → r + hc ≡ s + v → t0 + hc ≡ t → r0 + v ≡ r → r0 + m ≡ t0 + n
-    moved t s r t0 r0 m n hc v h1 h2 h3 h4 = omega arith
+  -- if it passed, its field is the fresh one: x and y are the totals but for the field
+  pub block-fresh : (x y : ℕ) → x + hc ≡ t → y + v ≡ r → 0 < y → passes t ≡ true → v ≡ sent u (fieldOf (fold y))
+  block-fresh x y a b some p =
+      let w : fieldOf (fold y) % 65535 ≡ fieldOf (fold y) = omega (arith, fold-as y) in
+      e ∙ ap (sent u) (update-renews x y hc m n small (omega arith) (ap passes a ∙ p) ∙ w)
 
 -- a block with its fresh field passes, also as UDP sends it
 pub sent-passes : (t : ℕ) (u : Bool) → passes (t + sent u (fieldOf (fold t))) ≡ true

@@ -54,12 +54,13 @@ pub fn passes(f: Fold) -> bool
     f.0 == 65535
 }
 
-// The field after the old bytes' fold gave way to the new bytes' (RFC 1624, equation 3).
+// The field after the old bytes' fold gave way to the new bytes': RFC 1624's equation 3, but 0000 where that answers
+// FFFF. It is a remainder, since no two numbers under FFFF are of one class.
 pub fn update(field: Field, old: Fold, new: Fold) -> Field
     ensures { λ r. ⌜ r .0 ≡ updated (field .0) (old .0) (new .0) ⌝ }
 {
-    let t = (65535 - field.0) as u64 + (65535 - old.0) as u64 + new.0 as u64;
-    field_of(fold_of(t))
+    let t = field.0 as u32 + old.0 as u32 + (65535 - new.0) as u32;
+    Field((t % 65535) as u16)
 }
 
 // The fold of A's bytes followed by B's, from their folds, where A has an even number of bytes.
