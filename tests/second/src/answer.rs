@@ -45,6 +45,7 @@ pub const SUM: usize = 10;
 pub const FILL: u8 = 0xA5;
 pub const BAD_CASE: &str = "bad case\n";
 
+#[derive(Debug)]
 pub struct Case {
     pub operation: u8,
     pub source: u8,

@@ -4,6 +4,7 @@ mod captures;
 mod corners;
 mod packets;
 mod sums;
+mod zeros;
 
 use crate::answer::*;
 use crate::cover::Cover;
@@ -72,6 +73,7 @@ pub fn stored(seed: u64) -> Result<(Vec<u8>, u64), String> {
     maker.captures();
     maker.joins();
     maker.long_chains();
+    maker.zeros();
     if let Some(cover) = &maker.cover {
         cover.check()?;
     }
@@ -92,6 +94,7 @@ pub fn fuzz(seed: u64, count: u64, out: &mut impl Write) -> io::Result<()> {
             18..=22 => maker.any_rubbish(),
             23..=26 => maker.any_long(),
             27..=36 => maker.any_sequence(),
+            37..=38 => maker.any_zeros(),
             _ => maker.any_faults(),
         }
         out.write_all(&maker.bytes)?;

@@ -4,16 +4,19 @@ use crate::answer::*;
 use crate::capture::{edition_wrong, mark_wrong, whole_records};
 use crate::draft::KINDS;
 use crate::edit;
-use crate::judge::{JUDGED, RULES};
-use crate::mend;
+use crate::judge::{judge, JUDGED, RULES};
+use crate::mend::{self, fresh_header_field, fresh_message_field};
 use crate::packet::{View, HEADER_FIELD, ICMP, ICMPV6, TABLE, TCP, UDP};
+use crate::sums::{passes, Field};
+use crate::updates::{corner_triples, updated_fields};
 use crate::verdict::*;
 use std::collections::BTreeSet;
 
 #[derive(Default)]
 pub struct Cover {
-    /// The verdicts of each operation; these must be those the paper makes possible, and no others.
-    verdicts: BTreeSet<String>,
+    /// The verdicts of each operation, and what an edit makes of the fields that it updates; these must be those the
+    /// paper makes possible, and no others.
+    exact: BTreeSet<String>,
     /// All else that was reached; there may be more than is wanted.
     reached: BTreeSet<String>,
     /// Whether the case before was an edit, and its verdict.
@@ -32,7 +35,7 @@ impl Cover {
             JUDGE..=STRETCH => self.note_packet(case, before, after, first.unwrap_or(u8::MAX)),
             CAPTURE | PRINTED => self.note_capture(case, before, answer),
             CHAIN => self.note_chain(case, before, answer),
-            UPDATE => self.reach(format!("update to {}", answer.trim_end())),
+            UPDATE => self.note_update(case, answer),
             JOIN => self.note_join(case, answer),
             _ => self.reach(format!("{} of {} bytes", OPERATIONS[case.operation as usize], before.len())),
         }
@@ -40,15 +43,12 @@ impl Cover {
 
     /// An error that names the first things missing, or a verdict that no rule allows.
     pub fn check(&self) -> Result<(), String> {
-        let wanted = wanted_verdicts();
-        if let Some(line) = self.verdicts.difference(&wanted).next() {
+        let wanted = wanted_exactly();
+        if let Some(line) = self.exact.difference(&wanted).next() {
             return Err(format!("the paper makes this impossible: {line}"));
         }
-        let missing: Vec<String> = wanted
-            .difference(&self.verdicts)
-            .cloned()
-            .chain(wanted_else().difference(&self.reached).cloned())
-            .collect();
+        let missing: Vec<String> =
+            wanted.difference(&self.exact).cloned().chain(wanted_else().difference(&self.reached).cloned()).collect();
         match missing.len() {
             0 => Ok(()),
             n => Err(format!("{n} things aren't reached, such as:\n{}", missing[..n.min(20)].join("\n"))),
@@ -62,7 +62,7 @@ impl Cover {
     fn note_packet(&mut self, case: &Case, before: &[u8], after: &[u8], verdict: Verdict) {
         let operation = OPERATIONS[case.operation as usize];
         let view = View::new(before);
-        self.verdicts.insert(format!("{operation} of {}: {verdict}", family_name(before)));
+        self.exact.insert(format!("{operation} of {}: {verdict}", family_name(before)));
         let families: &[u8] = match view.family {
             4 => &[4],
             6 => &[6],
@@ -90,7 +90,10 @@ impl Cover {
         match case.operation {
             JUDGE => self.note_judged(&view, verdict),
             MEND if verdict == GOOD => self.note_fields(case, &View::new(after), true, true),
-            LIFETIME if verdict == GOOD => self.note_fields(case, &View::new(after), true, false),
+            LIFETIME if verdict == GOOD => {
+                self.note_fields(case, &View::new(after), true, false);
+                self.note_updated(case, &view, &View::new(after));
+            }
             ADDRESS => self.note_address(case, &view, after, verdict),
             STRETCH => self.note_stretch(case, &view, after, verdict),
             _ => {}
@@ -129,6 +132,43 @@ impl Cover {
         }
     }
 
+    /// The fields that an accepted edit has just updated. Where the sum was right the field is fresh, in a good packet
+    /// and in one that is wrong elsewhere; only UDP's can be FFFF. Where equation 3 alone answers FFFF, what is taken
+    /// note of says which case of it this is.
+    fn note_updated(&mut self, case: &Case, before: &View, after: &View) {
+        let (operation, kind) = (OPERATIONS[case.operation as usize], kind_name(before.kind()));
+        let verdict = judge(before.bytes);
+        for updated in updated_fields(case, before) {
+            let name = if updated.header { "header" } else { "message" };
+            let fresh = if updated.header { fresh_header_field(after) } else { fresh_message_field(after) };
+            let right = if updated.header { passes(before.header()) } else { passes(&before.covered_block()) };
+            let field = after.word(updated.place);
+            if right {
+                let word = if Field(field) == fresh { "fresh" } else { "not fresh" };
+                self.exact.insert(format!("{operation} of {kind}, verdict {verdict}: {name} field {word}"));
+            }
+            if field == 0xFFFF && (updated.header || before.protocol() != UDP) {
+                self.exact.insert(format!("{operation} of {kind}: {name} field FFFF"));
+            }
+            if updated.from_full_to_zeros() {
+                let place = match case.operation {
+                    ADDRESS => format!("side {}", case.number),
+                    _ => format!("{} place, {}", parity(case.number), size_name(case.two.len())),
+                };
+                self.exact.insert(format!("{kind}: {name} field FFFF, fold FFFF to 0000: {field:04X}"));
+                self.reach(format!("{kind}: {name} field FFFF, fold FFFF to 0000: {place}, verdict {verdict}"));
+            }
+        }
+    }
+
+    fn note_update(&mut self, case: &Case, answer: &str) {
+        let words = [32, 16, 0].map(|low| (case.number >> low) as u16);
+        self.reach(format!("update of {words:04X?}"));
+        if answer == "65535\n" {
+            self.exact.insert("update to FFFF".to_string());
+        }
+    }
+
     fn note_address(&mut self, case: &Case, before: &View, after: &[u8], verdict: Verdict) {
         self.reach(format!("side {}: {verdict}", case.number));
         self.reach(format!("address of {} bytes in IPv{}: {verdict}", case.two.len(), before.family));
@@ -140,6 +180,7 @@ impl Cover {
             self.reach(format!("{}: the same address again", kind_name(before.kind())));
         }
         self.note_fields(case, &View::new(after), true, !before.pseudo_header().is_empty());
+        self.note_updated(case, before, &View::new(after));
     }
 
     fn note_stretch(&mut self, case: &Case, before: &View, after: &[u8], verdict: Verdict) {
@@ -160,6 +201,7 @@ impl Cover {
             self.reach(format!("{kind}: the same stretch again"));
         }
         self.note_fields(case, &View::new(after), false, true);
+        self.note_updated(case, before, &View::new(after));
     }
 
     fn note_capture(&mut self, case: &Case, capture: &[u8], answer: &str) {
@@ -174,7 +216,7 @@ impl Cover {
         }
         let (records, damaged) = whole_records(capture);
         let (count, places) = (records.len() as u64, case.number);
-        self.verdicts.insert(format!("judge capture: {}", answer.split(' ').next().unwrap_or("")));
+        self.exact.insert(format!("judge capture: {}", answer.split(' ').next().unwrap_or("")));
         let tests = [
             ("mark", mark_wrong(capture)),
             ("edition", edition_wrong(capture)),
@@ -196,7 +238,7 @@ impl Cover {
     }
 
     fn note_chain(&mut self, case: &Case, buffer: &[u8], answer: &str) {
-        self.verdicts.insert(format!("chain: {}", answer.split(' ').next().unwrap_or("")));
+        self.exact.insert(format!("chain: {}", answer.split(' ').next().unwrap_or("")));
         let numbers: Vec<u64> =
             case.two.chunks(4).map(|n| u32::from_be_bytes([n[0], n[1], n[2], n[3]]).into()).collect();
         let pieces: Vec<(u64, u64)> = numbers.chunks_exact(2).map(|piece| (piece[0], piece[1])).collect();
@@ -237,13 +279,21 @@ impl Cover {
             together if together == LARGEST_LENGTH + 1 => "2^64",
             _ => "over 2^64",
         };
-        self.verdicts.insert(format!("join, lengths together {lengths}: {verdict}"));
+        self.exact.insert(format!("join, lengths together {lengths}: {verdict}"));
         self.reach(format!("join, {} before {}: {verdict}", parity(a.length), parity(b.length)));
         for (name, sum) in [("first", a), ("second", b)] {
             if sum.length == 0 && sum.fold.0 != 0 {
                 self.reach(format!("join, the {name} of length 0 with a fold: {verdict}"));
             }
         }
+    }
+}
+
+/// Two bytes, or more of them.
+fn size_name(length: usize) -> String {
+    match length {
+        2 => "two bytes".to_string(),
+        _ => format!("more, {}", parity(length as u64)),
     }
 }
 
@@ -341,8 +391,8 @@ fn can_meet(a: &str, b: &str) -> bool {
     }
 }
 
-/// The verdicts that the paper makes possible.
-fn wanted_verdicts() -> BTreeSet<String> {
+/// The verdicts that the paper makes possible, and what it makes of updated fields.
+fn wanted_exactly() -> BTreeSet<String> {
     let mut wanted = BTreeSet::new();
     for operation in JUDGE..=STRETCH {
         let name = OPERATIONS[operation as usize];
@@ -362,7 +412,34 @@ fn wanted_verdicts() -> BTreeSet<String> {
     wanted.extend([GOOD, PLACE].map(|number| format!("chain: {number}")));
     let together = [("under 2^64 - 1", GOOD), ("2^64 - 1", GOOD), ("2^64", PLACE), ("over 2^64", PLACE)];
     wanted.extend(together.map(|(lengths, number)| format!("join, lengths together {lengths}: {number}")));
+    for kind in KINDS {
+        let name = kind_name(kind);
+        for (operation, field) in updates_of(kind) {
+            let verdicts: &[Verdict] = match (kind, field) {
+                ((4, UDP), "header") => &[GOOD, UNSUMMED, MESSAGE_SUM],
+                (_, "header") => &[GOOD, MESSAGE_SUM],
+                ((4, _), _) => &[GOOD, HEADER_SUM],
+                _ => &[GOOD],
+            };
+            let edit = OPERATIONS[operation as usize];
+            wanted.extend(verdicts.iter().map(|v| format!("{edit} of {name}, verdict {v}: {field} field fresh")));
+            if operation != LIFETIME {
+                let sent = if field == "message" && kind.1 == UDP { "FFFF" } else { "0000" };
+                wanted.insert(format!("{name}: {field} field FFFF, fold FFFF to 0000: {sent}"));
+            }
+        }
+    }
     wanted
+}
+
+/// Each edit with each field that it updates in packets of a kind.
+fn updates_of((family, protocol): (u8, u8)) -> Vec<(u8, &'static str)> {
+    let all = [(LIFETIME, "header"), (ADDRESS, "header"), (ADDRESS, "message"), (STRETCH, "message")];
+    let covered = |(operation, field): &(u8, &str)| match *field {
+        "header" => family == 4,
+        _ => *operation == STRETCH || protocol != ICMP,
+    };
+    all.into_iter().filter(covered).collect()
 }
 
 fn wanted_else() -> BTreeSet<String> {
@@ -370,6 +447,7 @@ fn wanted_else() -> BTreeSet<String> {
     wanted.extend(wanted_pairs());
     wanted.extend(wanted_lengths());
     wanted.extend(wanted_fields());
+    wanted.extend(wanted_zeros());
     wanted.extend(wanted_edits());
     wanted.extend(wanted_captures());
     wanted.extend(wanted_sums());
@@ -432,13 +510,10 @@ fn wanted_fields() -> Vec<String> {
         "mend: IPv4 header field 0000",
         "lower lifetime: IPv4 header field 0000",
         "set address: IPv4 header field 0000",
-        "set address: IPv4 header field FFFF",
         "mend: ICMP in IPv4 field FFFF",
         "set address: UDP in IPv4 field 0000",
         "set stretch: UDP in IPv4 field 0000",
         "mend: UDP in IPv4 field 0000",
-        "update to 0",
-        "update to 65535",
     ]
     .map(String::from)
     .to_vec();
@@ -446,10 +521,10 @@ fn wanted_fields() -> Vec<String> {
         let (name, udp) = (kind_name(kind), kind.1 == UDP);
         wanted.push(format!("mend: {name} field {}", if udp { "FFFF" } else { "0000" }));
         for operation in [ADDRESS, STRETCH] {
-            let touched = operation == STRETCH || kind.1 != ICMP;
-            let fields = if udp { vec!["FFFF"] } else { vec!["0000", "FFFF"] };
-            let lines = fields.iter().map(|field| format!("{}: {name} field {field}", OPERATIONS[operation as usize]));
-            wanted.extend(lines.filter(|_| touched));
+            if updates_of(kind).contains(&(operation, "message")) {
+                let field = if udp { "FFFF" } else { "0000" };
+                wanted.push(format!("{}: {name} field {field}", OPERATIONS[operation as usize]));
+            }
         }
     }
     for (family, zero) in [(4, UNSUMMED), (6, MISSING)] {
@@ -459,6 +534,40 @@ fn wanted_fields() -> Vec<String> {
     }
     wanted
 }
+
+/// Updates of every three corner words, and edits where equation 3 alone answers FFFF: at even and odd places, of
+/// two bytes and more, on both sides, of packets that are good and of packets that aren't.
+fn wanted_zeros() -> Vec<String> {
+    let mut wanted: Vec<String> = corner_triples().map(|triple| format!("update of {triple:04X?}")).collect();
+    for kind in KINDS {
+        let verdicts: &[Verdict] = if kind.0 == 4 { &[GOOD, HEADER_SUM, MESSAGE_SUM] } else { &[GOOD, MESSAGE_SUM] };
+        for (operation, field) in updates_of(kind) {
+            let places: &[&str] = match operation {
+                LIFETIME => &[],
+                ADDRESS => &["side 0", "side 1"],
+                _ => &STRETCHED,
+            };
+            let unsummed = if kind == (4, UDP) && field == "header" { &[UNSUMMED][..] } else { &[] };
+            for verdict in verdicts.iter().chain(unsummed) {
+                let line = |place| {
+                    format!("{}: {field} field FFFF, fold FFFF to 0000: {place}, verdict {verdict}", kind_name(kind))
+                };
+                wanted.extend(places.iter().map(line));
+            }
+        }
+    }
+    wanted
+}
+
+/// Where a stretch is and how long, in words.
+const STRETCHED: [&str; 6] = [
+    "even place, two bytes",
+    "even place, more, even",
+    "even place, more, odd",
+    "odd place, two bytes",
+    "odd place, more, even",
+    "odd place, more, odd",
+];
 
 fn wanted_edits() -> Vec<String> {
     let mut wanted = Vec::new();

@@ -12,4 +12,5 @@ pub mod mend;
 pub mod packet;
 pub mod random;
 pub mod sums;
+pub mod updates;
 pub mod verdict;

@@ -1,14 +1,16 @@
-// The command line: make cases, answer them, make fresh random ones, and hold given answers to our own.
+// The command line: make cases, answer them, make fresh random ones, make updates with their answers, and hold given
+// answers to our own.
 
 use second::answer::{Case, Desk, Next, BAD_CASE, GIVEN, OPERATIONS};
 use second::cases;
+use second::updates::write_records;
 use std::env;
 use std::fs::File;
 use std::io::{self, stdin, stdout, BufRead, BufReader, BufWriter, Write};
 use std::process::ExitCode;
 
 /// Each command: its name, what follows it, and its help.
-const COMMANDS: [(&str, &[&str], &str); 4] = [
+const COMMANDS: [(&str, &[&str], &str); 5] = [
     (
         "cases",
         &["SEED"],
@@ -21,6 +23,13 @@ const COMMANDS: [(&str, &[&str], &str); 4] = [
         &["SEED", "COUNT"],
         "Writes about COUNT fresh random cases, never fewer, to standard output.\n\
          The same seed and count give the same cases.",
+    ),
+    (
+        "updates",
+        &["SEED", "COUNT"],
+        "Writes updates to standard output, as records of four big-endian 16-bit words: field, old fold, new fold\n\
+         and answer. First every three of 0000, 0001, 7FFF, 8000, FFFE and FFFF, then COUNT random triples. The same\n\
+         seed and count give the same records.",
     ),
     (
         "compare",
@@ -78,6 +87,7 @@ fn run(words: &[&str]) -> Result<(), Failure> {
         "cases" => write_cases(number(rest[0])?),
         "answers" => write_answers(),
         "fuzz" => Ok(cases::fuzz(number(rest[0])?, number(rest[1])?, &mut BufWriter::new(stdout().lock()))?),
+        "updates" => Ok(write_records(number(rest[0])?, number(rest[1])?, &mut BufWriter::new(stdout().lock()))?),
         _ => compare(rest[0], rest[1]),
     }
 }

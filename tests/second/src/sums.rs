@@ -99,8 +99,16 @@ pub fn chain(buffer: &[u8], list: &[u32]) -> (Verdict, Partial) {
     (GOOD, Partial { fold: fold(sum), length })
 }
 
-/// The new field after a word or stretch with the fold `old` became one with the fold `new` (RFC 1624, equation 3).
-pub fn update(field_before: Field, old: Fold, new: Fold) -> Field {
+/// Equation 3 of RFC 1624: the new field after a word or stretch with the fold `old` became one with the fold `new`.
+pub fn equation_3(field_before: Field, old: Fold, new: Fold) -> Field {
     let sum = (65535 - u128::from(field_before.0)) + (65535 - u128::from(old.0)) + u128::from(new.0);
     field(fold(sum))
+}
+
+/// The update: what equation 3 answers, and 0000 where that is FFFF.
+pub fn update(field_before: Field, old: Fold, new: Fold) -> Field {
+    match equation_3(field_before, old, new) {
+        Field(0xFFFF) => Field(0),
+        answer => answer,
+    }
 }

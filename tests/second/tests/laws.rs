@@ -220,7 +220,7 @@ fn an_edit_keeps_the_verdict_and_a_refused_one_keeps_the_packet() {
     }
 }
 
-/// A field at FFFF where 0000 is fresh passes; the same bytes again bring it to 0000; all ones gone, it stays FFFF.
+/// A field at FFFF where 0000 is fresh passes; the same bytes again bring it to 0000, and so does the loss of all ones.
 #[test]
 fn the_corners_of_the_update() {
     let mut random = Random(5);
@@ -239,7 +239,7 @@ fn the_corners_of_the_update() {
         assert_eq!(set_stretch(&mut same, 2, &[0x80, 0x00, 0x7F, 0xFF]), 0);
         assert_eq!(same[field..field + 2], zero);
         assert_eq!(set_stretch(&mut packet, 2, &[0, 0, 0, 0]), 0);
-        assert_eq!(packet[field..field + 2], [0xFF, 0xFF]);
+        assert_eq!(packet[field..field + 2], zero);
         assert_eq!(judge(&packet), 0);
         assert_eq!(mend(&mut packet), 0);
         assert_eq!(packet[field..field + 2], zero);

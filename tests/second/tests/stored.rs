@@ -2,6 +2,9 @@
 
 use second::answer::{Case, Desk, Next};
 use second::cases;
+use second::packet::View;
+use second::updates::updated_fields;
+use std::collections::BTreeMap;
 use std::fs;
 
 /// The answers to a file of cases, and whether it ends well.
@@ -53,6 +56,27 @@ fn fuzz_reaches_long_chains_and_both_answers_of_a_join() {
         }
     }
     assert!(long >= 1 && joins[0] >= 100 && joins[1] >= 100, "{long} long chains, joins {joins:?}");
+}
+
+/// Every kind of packet, both of its fields, and the update by itself.
+#[test]
+fn fuzz_reaches_each_update_where_equation_3_answers_ffff() {
+    let mut bytes = Vec::new();
+    cases::fuzz(9, 30_000, &mut bytes).unwrap();
+    let (mut input, mut desk, mut alone, mut edits) = (&bytes[..], Desk::default(), 0, BTreeMap::new());
+    while let Next::Case(case) = Case::read(&mut input).unwrap() {
+        desk.lay(&case);
+        let before = desk.buffer.clone();
+        let answer = desk.answer(&case);
+        alone += u32::from(case.operation == 10 && case.number == 0xFFFF_FFFF_0000);
+        if (2..=4).contains(&case.operation) && answer.starts_with("0 ") {
+            let view = View::new(&before);
+            for updated in updated_fields(&case, &view).iter().filter(|updated| updated.from_full_to_zeros()) {
+                *edits.entry((view.kind(), updated.header)).or_insert(0) += 1;
+            }
+        }
+    }
+    assert!(alone >= 100 && edits.len() == 9 && edits.values().all(|count| *count >= 20), "{alone} {edits:?}");
 }
 
 #[test]

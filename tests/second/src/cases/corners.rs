@@ -8,7 +8,7 @@ use crate::packet::{View, HEADER_FIELD, ICMP, UDP};
 /// Stretches of a body that are changed and changed back: place and length.
 const STRETCHES: [(usize, usize); 8] = [(2, 1), (2, 2), (3, 1), (3, 2), (3, 3), (2, 4), (5, 4), (2, 9)];
 
-/// Bytes whose fold is FFFF. Taken word by word, 8000 7FFF become zeros by another way than taken at once.
+/// Bytes whose fold is FFFF.
 const ALL_ONES: [&[u8]; 4] = [&[0xFF, 0xFF], &[0x80, 0x00, 0x7F, 0xFF], &[0xFF, 0xFF, 0, 0], &[0xFF; 6]];
 
 impl Maker {
@@ -62,7 +62,7 @@ impl Maker {
         self.every_operation(&packet, kind.0);
         self.stored_corners(&packet, kind);
         self.back_to_zero(&packet, body, kind.0);
-        self.stays_all_ones(&packet, body, kind.0);
+        self.leaves_all_ones(&packet, body);
     }
 
     /// The same packet with 0000 and with FFFF in each field.
@@ -112,14 +112,14 @@ impl Maker {
         self.left(JUDGE, 0, &[]);
     }
 
-    /// Fields at FFFF where 0000 is fresh: bytes that fold to FFFF become zeros, and the field stays FFFF;
-    /// the same bytes written again bring it to 0000.
-    fn stays_all_ones(&mut self, packet: &[u8], body: usize, family: u8) {
+    /// Fields at FFFF where 0000 is fresh: bytes that fold to FFFF are written again, or become zeros. Both bring a
+    /// field to 0000, UDP's to FFFF.
+    fn leaves_all_ones(&mut self, packet: &[u8], body: usize) {
         let (view, zeros) = (View::new(packet), [0; 16]);
         for old in ALL_ONES {
             for place in [2, 3] {
                 let start = body + place;
-                let all_ones = self.with_all_ones(packet, start, old, body + 10, family);
+                let all_ones = self.with_all_ones(packet, start, old, body + 10);
                 self.given(JUDGE, 0, &all_ones, &[]);
                 self.left(STRETCH, place as u64, old);
                 self.left(JUDGE, 0, &[]);
@@ -132,7 +132,7 @@ impl Maker {
                 let (start, length) = (view.address_place(side as usize), view.address_length());
                 let mut address = zeros[..length].to_vec();
                 address[..old.len().min(length)].copy_from_slice(&old[..old.len().min(length)]);
-                let all_ones = self.with_all_ones(packet, start, &address, body + 10, family);
+                let all_ones = self.with_all_ones(packet, start, &address, body + 10);
                 self.given(JUDGE, 0, &all_ones, &[]);
                 self.left(ADDRESS, side, &address);
                 self.left(JUDGE, 0, &[]);
@@ -145,7 +145,8 @@ impl Maker {
     }
 
     /// The packet with given bytes at a place, balanced again elsewhere, and its fields set to FFFF.
-    fn with_all_ones(&mut self, packet: &[u8], start: usize, bytes: &[u8], elsewhere: usize, family: u8) -> Vec<u8> {
+    pub fn with_all_ones(&mut self, packet: &[u8], start: usize, bytes: &[u8], elsewhere: usize) -> Vec<u8> {
+        let family = View::new(packet).family;
         let mut packet = packet.to_vec();
         packet[start..start + bytes.len()].copy_from_slice(bytes);
         self.balance(&mut packet, family, elsewhere);

@@ -147,8 +147,16 @@ impl Maker {
         self.sum(&bytes);
         for _ in 0..5 {
             self.any_update();
+            self.corner_update();
             self.any_join();
         }
+    }
+
+    /// An update of words at which sums go wrong; one in four is the one where equation 3 answers FFFF.
+    fn corner_update(&mut self) {
+        let [field, old, new] = [(); 3].map(|()| self.random.pick(&CORNER_WORDS));
+        let full = self.random.once_in(4);
+        self.again(UPDATE, if full { 0xFFFF_FFFF_0000 } else { field << 32 | old << 16 | new }, &[]);
     }
 
     /// Chains that fit, that don't, and that only fit if a sum of 32-bit numbers wraps.
