@@ -1,6 +1,7 @@
 #!/bin/sh
-# Builds and runs what links the archive: the host test, the same over a shared object and from C++, lengths over 2^32,
-# and the hut; looks at the archive's names; and tries the program and the script that runs it.
+# Builds and runs what links the archive: the host test, the same over a shared object and from C++, updates beside the
+# second implementation's, lengths over 2^32, and the hut; looks at the archive's names; and tries the program and the
+# script that runs it.
 # HIFROSTUM_SKIP_C=1 leaves all of it out. JUDGE_CAPTURE names another program than target/bin/judge_capture.
 set -eu
 cd "$(dirname "$0")/.."
@@ -45,6 +46,7 @@ sed -n '/^ \*     static uint16_t fold_at/,/^ \* A UDP/s/^ \*     //p' include/h
 {
     $x86 cc $flags tests/host/host.c "$archive" -o $out/host
     $x86 cc $flags tests/host/lengths.c "$archive" -o $out/lengths
+    $x86 cc $flags tests/host/updates.c "$archive" -o $out/updates
     $x86 cc $flags examples/hut/hut.c "$archive" -o $out/hut
     $x86 cc $flags $out/readme.c "$archive" -o $out/readme
     $x86 cc -shared -Wl,-z,text,-z,defs,--whole-archive "$archive" -Wl,--no-whole-archive -o $out/libhifrostum.so
@@ -66,6 +68,18 @@ if $x86 native; then
 else
     $x86 run $out/lengths 268435463 4294967303 0
 fi
+# the update by itself, beside the second implementation's; no record, a cut one or another answer must not pass
+cargo build --release --offline --quiet --manifest-path tests/second/Cargo.toml --target-dir target/second
+target/second/release/second updates 1 1000000 >$out/triples
+: >$out/triples-none
+head -c 1727 $out/triples >$out/triples-cut
+printf '\377\377\377\377\000\000\377\377' >$out/triples-other
+for wrong in none cut other; do
+    if $x86 run $out/updates <$out/triples-$wrong >$out/said; then
+        fail "records that are wrong pass ($wrong): $(cat $out/said)"
+    fi
+done
+$x86 run $out/updates <$out/triples
 $x86 run $out/host-shared >$out/said || fail "from a shared object: $(cat $out/said)"
 sed -n '$s/^host:/& from a shared object:/p' $out/said
 $x86 run $out/host

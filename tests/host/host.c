@@ -349,10 +349,12 @@ static void updates(void)
     expect(hifrostum_update(0xEDCB, 0x1234, 0), 0, "update EDCB");
     expect(hifrostum_update(0xB861, 0x4000, 0x3F00), 0xB961, "update of a lifetime");
     expect(hifrostum_update(0xFFFF, 0x1234, 0x1234), 0, "update of FFFF by nothing");
+    expect(hifrostum_update(0xFFFF, 0xFFFF, 0), 0, "update of FFFF from FFFF to 0000");
     static const uint16_t corners[] = {0, 1, 0xFF, 0x100, 0x7FFF, 0x8000, 0xFFFE, 0xFFFF};
     for (unsigned i = 0; i < 512; i++) {
         uint16_t hc = corners[i / 64], m = corners[i / 8 % 8], n = corners[i % 8];
-        expect(hifrostum_update(hc, m, n), 65535 - fold(65535ul - hc + 65535ul - m + n), "update at a corner");
+        unsigned equation = 65535 - fold(65535ul - hc + 65535ul - m + n);
+        expect(hifrostum_update(hc, m, n), equation == 0xFFFF ? 0 : equation, "update at a corner");
     }
 }
 
@@ -372,6 +374,16 @@ static void example(void)
                    "the header's example");
         }
     expect(fold_at(1, words, 3), 0x01F2, "a fold at an odd place");
+    /* two bytes of FF at each place become zeros, under a field at FFFF where the fresh one is 0000 */
+    for (size_t place = 0; place < 37; place++) {
+        put(before + place, 0xFFFF);
+        put(before + 38, 0);
+        put(before + 38, 65535 - fold(weigh(before, 40)));
+        memcpy(after, before, 40);
+        put(after + place, 0);
+        expect(renewed(0xFFFF, place, before + place, after + place, 2), 65535 - fold(weigh(after, 40)),
+               "the header's example under FFFF");
+    }
 }
 
 static void chains(void)
@@ -737,6 +749,156 @@ static void stretch_each(void)
     expect(call(STRETCH, p, len - 1, 0, new, 1), 2, "a cut packet");
 }
 
+/* Fields at FFFF where the fresh ones are 0000, and bytes of the fold FFFF that become zeros: there equation 3
+ * would keep the FFFF. Each updated field must be the mender's, 0000, and FFFF for UDP. */
+
+struct kind {
+    int family;
+    unsigned protocol;
+    size_t message, field, body;
+};
+static const struct kind each[] = {
+    {4, 1, 20, 22, 28}, {4, 6, 20, 36, 40}, {4, 17, 20, 26, 28},
+    {6, 6, 40, 56, 60}, {6, 17, 40, 46, 48}, {6, 58, 40, 42, 44},
+};
+enum { KINDS = sizeof each / sizeof *each, BODY = 20 };
+
+static const uint8_t none[16] = {0};
+
+/* p becomes a good packet with these bytes at a place, whose fields stand at FFFF and are 0000 when fresh. */
+static size_t all_ones(const struct kind *kind, size_t place, const uint8_t *bytes, size_t bytes_len)
+{
+    size_t len = packet_of(p, kind->family, kind->protocol, kind->body - kind->message + BODY);
+    memcpy(p + place, bytes, bytes_len);
+    put(p + kind->field, 0);
+    put(p + kind->message, 0);
+    put(p + kind->message, 65535 - message_sum(p));
+    put(p + kind->field, 0xFFFF);
+    if (kind->family == 4) {
+        put(p + 4, 0);
+        put(p + 4, 65535 - fold(weigh(p, 20)));
+        put(p + 10, 0xFFFF);
+    }
+    return len;
+}
+
+/* What a message field comes to: UDP's is never 0000. */
+static unsigned zero(const struct kind *kind)
+{
+    return kind->protocol == 17 ? 0xFFFF : 0;
+}
+
+/* A field of p that an edit updated: its value, and the mender's if the packet was good. */
+static void updated(size_t len, size_t field, unsigned value, int good)
+{
+    expect(word(p + field), value, "the updated field");
+    memcpy(q, p, len);
+    expect(mend(q, len), 0, "mend a copy");
+    check(!good || word(q + field) == value, "the mender's field");
+}
+
+static void full_stretches(void)
+{
+    static const struct {
+        size_t len;
+        uint8_t bytes[8];
+    } full[] = {{2, {0xFF, 0xFF}}, {3, {0x80, 0xFF, 0x7F}}, {4, {0x80, 0, 0x7F, 0xFF}}, {4, {0, 0, 0xFF, 0xFF}},
+                {5, {0x12, 0x34, 0xED, 0xCB, 0}}, {8, {255, 255, 255, 255, 255, 255, 255, 255}}};
+    for (size_t i = 0; i < KINDS * 6 * 8; i++) {
+        const struct kind *kind = each + i / 48;
+        const uint8_t *bytes = full[i / 8 % 6].bytes;
+        size_t place = i / 2 % 4, n = full[i / 8 % 6].len, len = all_ones(kind, kind->body + place, bytes, n);
+        int damaged = i % 2;
+        p[kind->message + 1] ^= damaged ? 0x10 : 0;
+        expect(judge(p, len), damaged ? 9 : 0, "judge a field at FFFF");
+        expect(call(STRETCH, p, len, BODY + 1 - n, none, n), 10, "zeros that don't fit");
+        expect(call(STRETCH, p, len, place, none, n), 0, "zeros for all ones");
+        check(memcmp(p + kind->body + place, none, n) == 0, "in place");
+        updated(len, kind->field, zero(kind), !damaged);
+        expect(judge(p, len), damaged ? 9 : 0, "judge it");
+        expect(call(STRETCH, p, len, place, bytes, n), 0, "all ones again");
+        updated(len, kind->field, zero(kind), !damaged);
+    }
+}
+
+static void full_addresses(void)
+{
+    static const uint8_t ends[4][4] = {
+        {255, 255, 255, 255}, {0x80, 0, 0x7F, 0xFF}, {0, 0, 0xFF, 0xFF}, {0xFE, 0x80, 0x01, 0x7F},
+    };
+    for (size_t i = 0; i < KINDS * 4 * 4; i++) {
+        const struct kind *kind = each + i / 16;
+        size_t side = i / 2 % 2, n = kind->family == 4 ? 4 : 16;
+        int damaged = i % 2, four = kind->family == 4;
+        uint8_t full[16] = {0};
+        memcpy(full, ends[i / 4 % 4], 2);
+        memcpy(full + n - 2, ends[i / 4 % 4] + 2, 2);
+        size_t place = (four ? 12 : 8) + side * n, len = all_ones(kind, place, full, n);
+        p[four ? 1 : 41] ^= damaged ? 0x10 : 0;
+        unsigned verdict = !damaged ? 0 : four ? 5 : 9;
+        expect(judge(p, len), verdict, "judge fields at FFFF");
+        expect(call(ADDRESS, p, len, 2, none, n), 10, "side 2");
+        expect(call(ADDRESS, p, len, side, none, 20 - n), 10, "zeros of the other family");
+        expect(call(ADDRESS, p, len, side, none, n), 0, "an address of zeros");
+        check(memcmp(p + place, none, n) == 0, "in place");
+        if (four)
+            updated(len, 10, 0, !damaged);
+        if (kind->protocol == 1)
+            expect(word(p + kind->field), 0xFFFF, "a field that isn't updated");
+        else
+            updated(len, kind->field, zero(kind), !damaged || four);
+        expect(judge(p, len), verdict, "judge it");
+    }
+}
+
+/* A neighbour's packet, edits in turn, an unsummed packet and blank messages. */
+static void fields_at_ffff(void)
+{
+    static const uint8_t neighbour[42] = {
+        0x45, 0, 0, 0x2A, 0, 0, 0x40, 0, 0x40, 6, 0xB8, 0xB5, 0xC0, 0xA8, 0, 1, 0xC0, 0xA8, 0, 0xC7, 0x13, 0x88,
+        0x13, 0x89, 0, 0, 0, 1, 0, 0, 0, 0, 0x50, 0x10, 6, 0xA8, 0xFF, 0xFF, 0, 0, 0xFF, 0xFF,
+    };
+    static const uint8_t ones[8] = {255, 255, 255, 255, 255, 255, 255, 255};
+    memcpy(p, neighbour, 42);
+    expect(judge(p, 42), 0, "the neighbour's packet");
+    expect(call(STRETCH, p, 42, 0, none, 2), 0, "its body becomes zeros");
+    updated(42, 36, 0, 1);
+    check(memcmp(p, q, 42) == 0, "the mender has nothing to do");
+    for (const struct kind *kind = each; kind < each + KINDS; kind++) {
+        size_t len = all_ones(kind, kind->body, ones, 8);
+        expect(call(STRETCH, p, len, 1, none, 2), 0, "two bytes of eight");
+        updated(len, kind->field, zero(kind), 1);
+        expect(call(STRETCH, p, len, BODY - 1, none, 2), 10, "a refused edit in between");
+        expect(call(STRETCH, p, len, 5, none, 2), 0, "two more");
+        updated(len, kind->field, zero(kind), 1);
+        expect(lower(p, len), 0, "lower what was edited");
+        expect(judge(p, len), 0, "judge it");
+    }
+    for (int four = 0; four < 2; four++) {
+        const struct kind *kind = four ? each + 2 : each + 4;
+        size_t n = four ? 4 : 16, place = four ? 12 : 8, len = all_ones(kind, place, ones, 4);
+        memset(p + place + 4, 0, n - 4);
+        put(p + kind->field, 0);
+        expect(judge(p, len), four ? 1 : 8, "judge UDP with no sum");
+        expect(call(ADDRESS, p, len, 0, none, n), four ? 0 : 8, "its address becomes zeros");
+        expect(word(p + kind->field), 0, "a kept zero");
+        expect(four ? word(p + 10) : 0, 0, "the header's field");
+        expect(judge(p, len), four ? 1 : 8, "judge it");
+    }
+    size_t len = all_ones(each, 12, ones, 4);
+    memset(p + 20, 0, len - 20);
+    put(p + 22, 0xFFFF);
+    expect(judge(p, len), 0, "judge a blank message");
+    expect(call(ADDRESS, p, len, 0, none, 4), 0, "its source becomes zeros");
+    updated(len, 10, 0, 1);
+    updated(len, 22, 0xFFFF, 1);
+    memcpy(p + 28, ones, 2);
+    expect(judge(p, len), 0, "judge a message of one word");
+    expect(call(STRETCH, p, len, 0, none, 2), 12, "it would be blank");
+    expect(call(STRETCH, p, len, 0, ones, 2), 0, "the same word again");
+    updated(len, 22, 0, 1);
+}
+
 static void captures(void)
 {
     static uint8_t verdicts[9];
@@ -854,6 +1016,10 @@ int main(void)
     stretch();
     stretch_each();
     group("set_stretch");
+    full_stretches();
+    full_addresses();
+    fields_at_ffff();
+    group("fields at FFFF");
     captures();
     long_capture();
     group("judge_capture");
