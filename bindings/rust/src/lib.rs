@@ -195,7 +195,8 @@ pub fn mend(packet: &mut [u8]) -> Verdict {
 }
 
 /// Lowers the lifetime by one and updates the IPv4 header field; `Spent` if it is 0 or 1.
-/// A damaged packet stays damaged: an edit updates and never mends. This holds of all three edits.
+/// A damaged packet stays damaged: an edit updates and never mends. In a good packet each field that an
+/// edit updates is the one that [`mend`] would write. Both hold of all three edits.
 pub fn lower_lifetime(packet: &mut [u8]) -> Verdict {
     Verdict::answered(unsafe { c::hifrostum_lower_lifetime(packet.as_mut_ptr(), packet.len()) })
 }
@@ -289,7 +290,8 @@ pub fn field(bytes: &[u8]) -> Field {
     Field(unsafe { c::hifrostum_field(bytes.as_ptr(), bytes.len()) })
 }
 
-/// The field after what it covers changed from one fold to another, by equation 3 of RFC 1624.
+/// The field after what it covers changed from one fold to another, by equation 3 of RFC 1624, with 0000
+/// where that answers FFFF.
 ///
 /// A fold is 65535 minus the [`field`] of the bytes, or what [`sum_chain`] answers, with its two bytes
 /// exchanged where the bytes begin at an odd place of what the field covers:

@@ -105,6 +105,24 @@ fn edits() {
     assert_eq!(lower_lifetime(&mut packet), Verdict::Spent);
 }
 
+/// A field at FFFF where the fresh one is 0000: an edit leaves what the mender writes.
+#[test]
+fn no_negative_zero() {
+    assert_eq!(update(Field(0xFFFF), Fold(0xFFFF), Fold(0)), Field(0));
+    let mut packet = [
+        0x45, 0, 0, 0x2A, 0, 0, 0x40, 0, 0x40, 6, 0xB8, 0xB5, 0xC0, 0xA8, 0, 1, 0xC0, 0xA8, 0,
+        0xC7, 0x13, 0x88, 0x13, 0x89, 0, 0, 0, 1, 0, 0, 0, 0, 0x50, 0x10, 6, 0xA8, 0xFF, 0xFF, 0,
+        0, 0xFF, 0xFF,
+    ];
+    assert_eq!(judge(&packet), Verdict::Good);
+    assert_eq!(set_stretch(&mut packet, 0, &[0, 0]), Verdict::Good);
+    assert_eq!(packet[36..], [0; 6]);
+    assert_eq!(judge(&packet), Verdict::Good);
+    let edited = packet;
+    assert_eq!(mend(&mut packet), Verdict::Good);
+    assert_eq!(packet, edited);
+}
+
 #[test]
 fn captures() {
     let mut verdicts = [7; 3];
