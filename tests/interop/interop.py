@@ -14,9 +14,11 @@ from scapy.layers.inet6 import ICMPv6EchoReply, ICMPv6EchoRequest, ICMPv6ND_NA, 
 from scapy.packet import Raw
 from scapy.utils import checksum
 
-SEED, MADE, ZEROS, DAMAGES, STRETCHES = 20, 1500, 60, 4, 2
+SEED, MADE, ZEROS, FULLS, DAMAGES, STRETCHES = 20, 1500, 60, 432, 4, 2
 GOOD, UNSUMMED, HEADER_SUM, UNCOVERED, MESSAGE_SUM = 0, 1, 5, 7, 9
 FIXED = {1: (8, 2), 6: (20, 16), 17: (8, 6), 58: (4, 2)}  # protocol: fixed header, place of the field
+FULL = ["ffff", "80ff7f", "80007fff", "0000ffff", "1234edcb00", "ffffffffffff"]  # their fold is FFFF anywhere
+FULL_ADDRESSES = ["ffffffff", "80007fff", "0000ffff", "fe80017f"]  # the first two bytes and the last, zeros between
 rng = random.Random(SEED)
 differ = 0
 table = []
@@ -72,24 +74,29 @@ def judged(packets):
     return [verdict for verdict, _ in ours([("j", 0, b"", data) for data in packets])]
 
 
-def tshark(packets):
-    """What tshark's checksum check finds, in our verdict numbers; None where it says neither good nor bad."""
-    fields = ["ip", "udp", "tcp", "icmp", "icmpv6"]
+def asked(packets, fields):
+    """The values that tshark prints for fields of packets: a list for each packet."""
     with tempfile.NamedTemporaryFile(suffix=".pcap") as file:
         file.write(struct.pack("<IHHIIII", 0xA1B2C3D4, 2, 4, 0, 0, 65535, 101))  # raw IP
         for i, data in enumerate(packets):
             file.write(struct.pack("<IIII", i, 0, len(data), len(data)) + data)
         file.flush()
         words = ["tshark", "-n", "-r", file.name, "-T", "fields", "-E", "separator=,", "-E", "occurrence=f"]
-        words += [w for f in fields for w in ("-e", f + ".checksum.status")]
+        words += [w for f in fields for w in ("-e", f)]
         words += [w for f in ("ip", "udp", "tcp") for w in ("-o", f + ".check_checksum:TRUE")]
         said = subprocess.run(words, stdout=subprocess.PIPE, stderr=subprocess.DEVNULL, check=True, text=True).stdout
     lines = said.splitlines()
     assert len(lines) == len(packets)
+    return [line.split(",") for line in lines]
+
+
+def tshark(packets):
+    """What tshark's checksum check finds, in our verdict numbers; None where it says neither good nor bad."""
+    fields = [f + ".checksum.status" for f in ("ip", "udp", "tcp", "icmp", "icmpv6")]
     numbers = {"Bad": "0", "Good": "1", "Not present": "3"}  # some editions print words
     verdicts = []
-    for line in lines:
-        header, *messages = [numbers.get(s, s) for s in line.split(",")]
+    for values in asked(packets, fields):
+        header, *messages = [numbers.get(s, s) for s in values]
         message = next((s for s in messages if s), None)
         found = {"0": MESSAGE_SUM, "1": GOOD, "3": UNSUMMED}.get(message)
         verdicts.append(HEADER_SUM if header == "0" else found)
@@ -162,6 +169,27 @@ def zero_made(i):
     made = bytes(ip / message / Raw(packet.data[packet.field:packet.field + 2]))
     assert made[packet.field:packet.field + 2] == (b"\xff\xff" if packet.protocol == 17 else b"\0\0")
     return made
+
+
+def full_made(i):
+    """A packet with bytes of the fold FFFF in its body and for its source. Its sums come out 0000, and FFFF stands in
+    their place, which is as good. With it the place of the bytes in the body, and their number."""
+    old, pad, ends = bytes.fromhex(FULL[i // 6 % 6]), i // 36 % 4, bytes.fromhex(FULL_ADDRESSES[(i + i // 144) % 4])
+    if i % 2:
+        ip, echo = IP(src=".".join(map(str, ends)), dst="10.0.0.2", ttl=2 + i % 200, id=0), ICMP(id=i)
+    else:
+        source = (ends[:2] + bytes(12) + ends[2:]).hex(":", 2)
+        ip, echo = IPv6(src=source, dst="fd00::2", hlim=2 + i % 200), ICMPv6EchoRequest(id=i)
+    message = [UDP(sport=40000 + i, dport=50000), TCP(sport=40000 + i, dport=50000), echo][i % 3]
+    body = rng.randbytes(pad) + old + bytes((pad + len(old)) % 2)
+    packet = Packet(bytes(ip / message / Raw(body + b"\0\0")))
+    if packet.four:
+        ip.id = int.from_bytes(packet.data[10:12], "big")
+    made = bytearray(bytes(ip / message / Raw(body + packet.data[packet.field:packet.field + 2])))
+    for at in [packet.field] + [10] * packet.four:
+        assert made[at:at + 2] == (b"\xff\xff" if packet.protocol == 17 and at != 10 else b"\0\0")
+        made[at:at + 2] = b"\xff\xff"
+    return bytes(made), packet.end - packet.body - len(body) - 2 + pad, len(old)
 
 
 def kernel_made(path):
@@ -274,6 +302,56 @@ def check_edits(packets):
     check_changed("two edits in turn", again)
 
 
+def check_full(packets):
+    """FFFF put for 0000: good for us. So it is for tshark but in TCP, where it finds FFFF and not the sum at fault."""
+    agreed, remarks = 0, asked(packets, ["tcp.checksum.ffff"])
+    for data, we, they, (remark,) in zip(packets, judged(packets), tshark(packets), remarks):
+        tcp = Packet(data).protocol == 6
+        if we == GOOD and they == (MESSAGE_SUM if tcp else GOOD) and bool(remark) == tcp:
+            agreed += 1
+        else:
+            disagree(f"FFFF put for 0000: we say {we}, tshark {they} and '{remark}'", data)
+    count("made by scapy, FFFF put for 0000; good for us, and for tshark too but for TCP's FFFF", agreed, len(packets))
+
+
+def check_fresh(what, requests):
+    """Good packets that we edit: each field that the edit updates has the bits that scapy gives it afresh."""
+    answers, agreed = ours(requests), 0
+    results = [data for _, data in answers]
+    for (letter, *_), (verdict, data), they in zip(requests, answers, tshark(results)):
+        packet = Packet(data)
+        message = letter == "s" or letter == "a" and packet.protocol != 1
+        fields = [packet.field] * message + [10] * (packet.four and letter in "la")
+        good, fresh = UNSUMMED if packet.unsummed else GOOD, rebuilt(packet)
+        same_bits = all(data[at:at + 2] == fresh[at:at + 2] for at in fields)
+        if verdict == GOOD and same_bits and (they == good or not message):
+            agreed += 1
+        else:
+            disagree(f"{what}: answered {verdict}, tshark says {they}, scapy makes {fresh.hex()} of it", data)
+    count(f"{what} by us; each updated field, bit by bit, what scapy works out afresh", agreed, len(requests))
+    return results
+
+
+def check_bits(packets):
+    """A station that compares our fields bit by bit, also where they stood at FFFF for 0000."""
+    roomy = [data for data in packets if Packet(data).end > Packet(data).body]
+    lowered = [("l", 0, b"", data) for data in packets if Packet(data).four]
+    check_fresh("edited", lowered + [address(data) for data in packets] + [stretch(data) for data in roomy])
+
+    full = [full_made(i) for i in range(FULLS)]
+    made = [data for data, _, _ in full]
+    check_full(made)
+    zeros = [("s", place, bytes(length)) for _, place, length in full]
+    nowhere = [("a", 0, bytes(4 if Packet(data).four else 16)) for data in made]
+    first = check_fresh("FFFF before, all ones made zeros", [(*edit, data) for edit, data in zip(zeros, made)])
+    other = check_fresh("FFFF before, an address made zeros", [(*edit, data) for edit, data in zip(nowhere, made)])
+    again = [(*edit, data) for edit, data in zip(nowhere + zeros, first + other)]
+    check_fresh("FFFF before, the two in turn", again)
+    lowered = [("l", 0, b"", data) for data in made if Packet(data).four]
+    rest = [address(data) for data in made] + [stretch(data) for data in made] + [same(data) for data in made]
+    check_fresh("FFFF before, edited otherwise", lowered + rest)
+
+
 def scribbled(data):
     """A packet with other fields, which a mender is to put right."""
     packet, data = Packet(data), bytearray(data)
@@ -333,6 +411,7 @@ def main():
     check_mended(both)
     check_sums("c", "cut and summed as a chain", both)
     check_sums("p", "cut, summed piece by piece and joined", both)
+    check_bits(both)
     print("| what | packets | agreed |\n|---|---|---|")
     for what, packets, agreed in table:
         print(f"| {what} | {packets} | {agreed} |")
