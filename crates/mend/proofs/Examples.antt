@@ -46,3 +46,13 @@ echo fh fl =
 mended-icmp6 : mendOf (echo 0x00 0x00) ≡ (Good, echo 0x7F 0xB9)
 unfolding weigh fold put familyOf headerEnd declaredEnd protocolOf fragmentOf outerRules rowOf startOf carriedOf endOf fieldAt bodyOf pseudo silentOf messageRules shapeRules wholeRules headerTotal messageTotal sent freshHeader freshMessage mendedHeader mendedMessage mendOf
 mended-icmp6 = refl
+
+-- ICMP over IPv4, all zeros but for its field: mending is no update, and FFFF stays
+abbrev blank : ℕ → ℕ → List ℕ
+blank fh fl =
+    0x45 ∷ 0x00 ∷ 0x00 ∷ 0x1C ∷ 0x00 ∷ 0x00 ∷ 0x00 ∷ 0x00 ∷ 0x40 ∷ 0x01 ∷ 0x66 ∷ 0xDF ∷ 0x0A ∷ 0x00 ∷ 0x00 ∷ 0x01 ∷ 0x0A ∷ 0x00 ∷ 0x00 ∷ 0x02
+    ∷ 0x00 ∷ 0x00 ∷ fh ∷ fl ∷ 0x00 ∷ 0x00 ∷ 0x00 ∷ 0x00 ∷ []
+
+mended-blank : mendOf (blank 0x00 0x00) ≡ (Good, blank 0xFF 0xFF)
+unfolding weigh fold put familyOf headerEnd declaredEnd protocolOf fragmentOf outerRules rowOf startOf carriedOf endOf fieldAt bodyOf pseudo silentOf messageRules shapeRules wholeRules headerTotal messageTotal sent freshHeader freshMessage mendedHeader mendedMessage mendOf
+mended-blank = refl
