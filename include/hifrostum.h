@@ -63,7 +63,8 @@ uint8_t hifrostum_judge(const uint8_t *packet, size_t len);
 uint8_t hifrostum_mend(uint8_t *packet, size_t len);
 
 /* Lowers the lifetime (time to live, hop limit) by one and updates the IPv4 header field.
- * A damaged packet stays damaged: an edit updates and never mends. This holds of all three edits.
+ * A damaged packet stays damaged: an edit updates and never mends. In a good one each field that it
+ * updates becomes the one that hifrostum_mend would write. This holds of all three edits.
  * Refusals: the shape's, then 8; 11 if the lifetime is 0 or 1. */
 uint8_t hifrostum_lower_lifetime(uint8_t *packet, size_t len);
 
@@ -118,8 +119,8 @@ uint8_t hifrostum_join(uint16_t fold_a, uint64_t length_a, uint16_t fold_b, uint
 uint16_t hifrostum_field(const uint8_t *bytes, size_t len);
 
 /* The field after the words under it changed from one fold to another: equation 3 of RFC 1624, but
- * 0000 where that answers FFFF. So if the sum was right, this is the field worked out anew, unless
- * all that it covers becomes 0; if the sum was wrong, it stays so.
+ * 0000 where that answers FFFF. If the sum was right, this is the field worked out anew, unless all
+ * that it covers becomes 0. If it was wrong it stays so, unless all was 0, the field too.
  * Mind the kinds: the first is a field, the other two are folds. Refuses nothing.
  *
  * A fold is 65535 minus hifrostum_field of the bytes, or what hifrostum_sum_chain answers where they

@@ -79,9 +79,6 @@ mod-out a b h = omega arith
 pub mod-in : (a b i j : ℕ) → a + 65535 * i ≡ b + 65535 * j → a % 65535 ≡ b % 65535
 mod-in a b i j h = sym (add-mul-mod-self-left a 65535 i) ∙ ap (λ n. n % 65535) h ∙ add-mul-mod-self-left b 65535 j
 
--- sums of what is alike are alike, and what is added to both may be taken away
+-- sums of what is alike are alike
 pub mod-plus : (a b c d : ℕ) → a % 65535 ≡ b % 65535 → c % 65535 ≡ d % 65535 → (a + c) % 65535 ≡ (b + d) % 65535
 mod-plus a b c d e f = omega arith
-
-pub mod-minus : (a b c : ℕ) → (a + c) % 65535 ≡ (b + c) % 65535 → a % 65535 ≡ b % 65535
-mod-minus a b c e = omega arith
