@@ -1,5 +1,5 @@
 -- The sum fields after edits: one that an edit updates is the fresh one if its sum was right, and one that none updates stays.
-use mathlib.Core.Path.{_≡_, refl, ap, _∙_}
+use mathlib.Core.Path.{_≡_, refl, sym, ap, _∙_}
 use mathlib.Core.Logic.{inl, inr, ⊎-elim}
 use Prim.Native.Nat.{ℕ}
 use native.Mathlib.Omega.{arith}
@@ -16,10 +16,12 @@ use Rattle.wire.specs.Inner.{silentOf}
 use Rattle.wire.proofs.Same.{field-same, four-same}
 use Rattle.judge.specs.Judge.{judgeOf}
 use Rattle.judge.proofs.Accepts.{accepted, verdict-good}
+use Rattle.mend.specs.Mend.{mendOf}
+use Rattle.mend.proofs.Mending.{mended}
 use Rattle.kept.specs.Runs.{Fit, Fits, Edit, apply, run, rulesOf}
 use Rattle.kept.specs.Fields.{Sum, header, message, used, covers, updates, Updated, Right, standing, freshOf}
 use Rattle.kept.proofs.Single.{made, accepted-clear, accepted-done, edit-either, kept, still}
-use Rattle.kept.proofs.Sequences.{fresh-kept}
+use Rattle.kept.proofs.Sequences.{verdict-kept, fresh-kept}
 
 -- ---- one edit
 module _ (e : Edit) (p : List ℕ) (f : Fit e) (b : Bytes p) (c : clear (rulesOf e p)) where
@@ -37,6 +39,12 @@ module _ (e : Edit) (p : List ℕ) (f : Fit e) (b : Bytes p) (c : clear (rulesOf
   made-stays message u n = let k = kept e p f b c in ap (wordAt (made e p)) (field-same (k .same .header)) ∙ k .message .stays n
 
 -- ---- any sequence of edits, refused ones included
+updated-used : (s : Sum) (es : List Edit) (p : List ℕ) → Fits es → Bytes p → Updated s es p → used s p ≡ true
+updated-used s [] p f b u = absurd u
+updated-used s (e ∷ es) p f b u =
+    let t = still e p (f .0) b in
+    ⊎-elim (λ h. and-true (covers s e p) (used s p) (h .1) .1) (λ h. sym (t .uses s) ∙ updated-used s es (apply e p .1) (f .1) (t .bytes) h) u
+
 used-kept : (s : Sum) (es : List Edit) (p : List ℕ) → Fits es → Bytes p → used s (run es p) ≡ used s p
 used-kept s [] p f b = refl
 used-kept s (e ∷ es) p f b = let t = still e p (f .0) b in used-kept s es (apply e p .1) (f .1) (t .bytes) ∙ t .uses s
@@ -86,3 +94,16 @@ edited-fresh s e p f b j g u = updated-fresh s (e ∷ []) p (f, tt) b (good-righ
 pub edited-fresh-run : (s : Sum) (es : List Edit) (p : List ℕ) → Fits es → Bytes p → judgeOf p ≡ Good → Updated s es p
     → standing s (run es p) ≡ freshOf s (run es p)
 edited-fresh-run s es p f b j u = updated-fresh s es p f b (good-right s p j) u
+
+-- so the mender, which sets each field in use to the fresh one, would leave it
+mender-sets : (s : Sum) (q : List ℕ) → judgeOf q ≡ Good → used s q ≡ true → standing s (mendOf q .1) ≡ freshOf s q
+mender-sets header q g u = mended q (accepted q Good (omega arith) g .0) .header u
+mender-sets message q g u =
+    let m = mended q (accepted q Good (omega arith) g .0) in
+    ap (wordAt (mendOf q .1)) (field-same (m .same .header)) ∙ m .message (simp (not-true (silentOf q) u))
+
+pub edited-mended : (s : Sum) (es : List Edit) (p : List ℕ) → Fits es → Bytes p → judgeOf p ≡ Good → Updated s es p
+    → standing s (mendOf (run es p) .1) ≡ standing s (run es p)
+edited-mended s es p f b j u =
+    mender-sets s (run es p) (verdict-kept es p f b ∙ j) (used-kept s es p f b ∙ updated-used s es p f b u)
+    ∙ sym (edited-fresh-run s es p f b j u)

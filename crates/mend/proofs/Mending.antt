@@ -74,7 +74,7 @@ module _ (p : List ℕ) where
   unfolding mendOf wholeRules outerRules messageRules shapeRules
   mended-clear g = call-clear (wholeRules p) p (mendedMessage (mendedHeader p)) (omega arith) g
 
-  mended : clear (wholeRules p) → Mended p (mendOf p .1)
+  pub mended : clear (wholeRules p) → Mended p (mendOf p .1)
   mended c = rw (done c) (both-set p c)
 
 -- ---- what the judge says of it
