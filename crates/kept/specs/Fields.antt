@@ -18,13 +18,13 @@ pub data Sum : Type 0 where
   header : Sum
   message : Sum
 
--- the header's is IPv4's, and a UDP field of 0000 is none
+-- it is in use: the header's in IPv4, the message's unless it is UDP's 0000
 abbrev pub used : Sum → List ℕ → Bool
 used header p = four p
 used message p = not (silentOf p)
 
--- the header's is updated after lifetime and address edits, the message's after an address edit where there is a pseudo-header, and
--- after a nonempty stretch
+-- it covers what an edit writes: the header's is updated after lifetime and address edits, the message's after an address edit where
+-- there is a pseudo-header, and after a nonempty stretch
 abbrev pub covers : Sum → Edit → List ℕ → Bool
 covers header lifetime p = true
 covers header (address side new) p = true
@@ -36,12 +36,12 @@ covers message (stretch place new) p = not (eqb (length new) 0)
 abbrev pub updates : Sum → Edit → List ℕ → Bool
 updates s e p = covers s e p && used s p
 
--- an edit that is accepted on the way updates it
+-- some edit that is accepted on the way updates it
 abbrev pub Updated : Sum → List Edit → List ℕ → Type 0
 Updated s [] p = ⊥
 Updated s (e ∷ es) p = ((apply e p .0 ≡ Good) × (updates s e p ≡ true)) ⊎ Updated s es (apply e p .1)
 
--- its sum, where it is used, is right
+-- the sum is right, where it is in use
 abbrev pub Right : Sum → List ℕ → Type 0
 Right header p = headerSums p ≡ true
 Right message p = silentOf p ≡ false → messageSums p ≡ true
