@@ -1,11 +1,15 @@
 -- What the writes of an edit keep of a sum whose field they update, and of one whose field they leave.
 use mathlib.Core.Path.{_≡_, refl, sym, ap, _∙_}
-use Prim.Native.Nat.{ℕ, _+_, _<_}
+use Prim.Native.Nat.{ℕ, _+_, _%_, _<_, _≤_}
 use native.Mathlib.Omega.{arith}
 use mathlib.Core.List.{List}
 use mathlib.Core.Bool.{Bool, true, false, not, true≢false}
 use lib.ListN.{length}
 use Rattle.sums.specs.Total.{odd, weigh}
+use Rattle.sums.specs.Fold.{fold, fieldOf, passes}
+use Rattle.sums.specs.Update.{updated}
+use Rattle.sums.proofs.Folds.{fold-as}
+use Rattle.sums.proofs.Updates.{update-passes, update-renews}
 use Rattle.wire.specs.Bytes.{wordAt, part, putWord, Bytes}
 use Rattle.wire.specs.Outer.{four, headerField}
 use Rattle.wire.specs.Inner.{fieldAt, silentOf, udp}
@@ -17,7 +21,7 @@ use Rattle.cover.proofs.Blocks.{header-word, message-field, header-some}
 use Rattle.judge.proofs.Answers.{sums4}
 use Rattle.judge.proofs.Kept.{Heard}
 use Rattle.mend.specs.Fresh.{sent, freshHeader, HeaderFresh, MessageFresh}
-use Rattle.mend.proofs.Numbers.{pass-alike, sent-some, block-alike, block-fresh}
+use Rattle.mend.proofs.Numbers.{sent-some, sent-mod}
 use Rattle.mend.proofs.Fresh.{writeH, writeF, sameH, sameF, asideH, asideF, freshF, header-right, message-right, header-fresh, silent-carry, message-fresh}
 use Rattle.kept.specs.Update.{updatedAt}
 
@@ -35,6 +39,17 @@ pub record MessageKept (u : Bool) (p q : List ℕ) : Type 0 where
   pub stays : u ≡ false → wordAt q (fieldAt p) ≡ wordAt p (fieldAt p)
 
 -- ---- the field is updated
+-- t is a block's total, s with a part of it replaced, r with the field as it is sent too
+module _ (t s r m n hc v : ℕ) (u : Bool) (small : hc ≤ 65535) (bytes : s + m ≡ t + n) (field : r + hc ≡ s + v) (e : v ≡ sent u (updated hc (fold m) (fold n))) where
+  block-kept : 0 < r → 0 < t → passes r ≡ passes t
+  block-kept = update-passes t r hc m n v small (ap (λ d. d % 65535) e ∙ sent-mod u (updated hc (fold m) (fold n))) (omega arith)
+
+  -- if it passed, the field is the fresh one: x and y are the totals but for the field
+  block-fresh : (x y : ℕ) → x + hc ≡ t → y + v ≡ r → 0 < y → passes t ≡ true → v ≡ sent u (fieldOf (fold y))
+  block-fresh x y a b some p =
+      let w : fieldOf (fold y) % 65535 ≡ fieldOf (fold y) = omega (arith, fold-as y) in
+      e ∙ ap (sent u) (update-renews x y hc m n small (omega arith) (ap passes a ∙ p) ∙ w)
+
 module _ {p q : List ℕ} (k : OuterFacts p) (by : Bytes p) (a : Same p q) (at : ℕ) (new : List ℕ) where
   pub header-done : headerTotal q + weigh (odd at) (part p at (length new)) ≡ headerTotal p + weigh (odd at) new
       → wordAt q headerField ≡ wordAt p headerField → HeaderKept (four p) p (putWord q headerField (updatedAt p headerField at at new))
@@ -48,14 +63,14 @@ module _ {p q : List ℕ} (k : OuterFacts p) (by : Bytes p) (a : Same p q) (at :
       let w : wordAt r headerField ≡ v = word-wrote v (writeH k a v) in
       let z = same-self p in
       let hc = word-small p headerField by in
-      let x = block-alike (headerTotal p) (headerTotal q) (headerTotal r) _ _ (wordAt p headerField) v false hc t f' refl in
+      let x = block-kept (headerTotal p) (headerTotal q) (headerTotal r) _ _ (wordAt p headerField) v false hc t f' refl (header-some k sr) (header-some k z) in
       let renewed : headerSums p ≡ true → HeaderFresh r =
       λ s y.
       w ∙ block-fresh (headerTotal p) (headerTotal q) (headerTotal r) _ _ (wordAt p headerField) v false hc t f' refl
       (headerTotal (putWord p headerField 0)) (headerTotal (putWord r headerField 0)) (asideH k z) (ap (λ n. headerTotal (putWord r headerField 0) + n) (sym w) ∙ asideH k sr)
       (header-some k (sameH k sr 0)) (sums4 p (sym (four-same (sr .header)) ∙ y) ∙ s) in
       record {
-        sums = rw (four-same (sr .header), pass-alike (headerTotal r) (headerTotal p) (header-some k sr) (header-some k z) x);
+        sums = rw (four-same (sr .header), x);
         fresh = λ g. renewed (header-right k g);
         renewed = λ u. renewed;
         stays = λ n f. absurd (true≢false (sym f ∙ n));
@@ -81,7 +96,7 @@ module _ {p q : List ℕ} (k : Facts p) (by : Bytes p) (a : Same p q) (at : ℕ)
       let some2 : 0 < r0 =
       there r0 v (messageTotal r) (wordAt p (fieldAt p)) (messageTotal q) q0 c f' (ap (λ n. q0 + n) (sym e) ∙ asideF k a) some1 in
       let hc = word-small p (fieldAt p) by in
-      let x = block-alike (messageTotal p) (messageTotal q) (messageTotal r) _ _ (wordAt p (fieldAt p)) v (udp p) hc t f' refl in
+      let x = block-kept (messageTotal p) (messageTotal q) (messageTotal r) _ _ (wordAt p (fieldAt p)) v (udp p) hc t f' refl (more r0 v (messageTotal r) c some2) (more _ _ (messageTotal p) z some0) in
       let renewed : messageSums p ≡ true → MessageFresh r =
       λ m u.
       ap (wordAt r) (field-same (sr .header)) ∙ w
@@ -91,7 +106,7 @@ module _ {p q : List ℕ} (k : Facts p) (by : Bytes p) (a : Same p q) (at : ℕ)
       record {
         heard = record {
           silent = silent-at sr k ∙ rw w (sent-some (udp p) (updatedAt p (fieldAt p) pos at new)) ∙ sym s;
-          sums = λ g. pass-alike (messageTotal r) (messageTotal p) (more r0 v (messageTotal r) c some2) (more _ _ (messageTotal p) z some0) x;
+          sums = λ g. x;
         };
         fresh = λ g. renewed (message-right k g s);
         renewed = λ u. renewed;

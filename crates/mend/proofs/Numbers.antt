@@ -1,6 +1,6 @@
--- The arithmetic of a field in its block: as it is sent, updated, and worked out anew.
+-- The arithmetic of a field in its block: as it is sent, and as it is worked out anew.
 use Prim.Native.Nat.{ℕ, zero, suc, _+_, _*_, _-_, _%_, _≤_, _<_}
-use mathlib.Core.Path.{_≡_, refl, ap, _∙_}
+use mathlib.Core.Path.{_≡_, refl}
 use mathlib.Core.Logic.{_⊎_, inl, inr}
 use mathlib.Core.Bool.{Bool, true, false, _&&_}
 use native.Mathlib.Omega.{arith}
@@ -8,19 +8,9 @@ use native.Mathlib.Decide.{ℕ-discrete}
 use lib.Dec.{eqb}
 use borrow.Author.Tests.{ne-eqb}
 use Rattle.sums.specs.Fold.{fold, fieldOf, passes}
-use Rattle.sums.specs.Update.{updated}
 use Rattle.sums.proofs.Folds.{fold-as, fold-small, fold-mod}
 use Rattle.sums.proofs.Passing.{passing, passed, fresh-passes}
-use Rattle.sums.proofs.Updates.{block-keeps, update-renews}
 use Rattle.mend.specs.Fresh.{sent}
-
--- two totals alike mod 65535, neither of them 0, pass alike
-pub pass-alike : (s t : ℕ) → 0 < s → 0 < t → s % 65535 ≡ t % 65535 → passes s ≡ passes t
-unfolding passes
-pass-alike s t a b e =
-    let x : ¬ (s ≡ 0) = λ z. omega arith in
-    let y : ¬ (t ≡ 0) = λ z. omega arith in
-    simp (ne-eqb s 0 x, ne-eqb t 0 y, e)
 
 -- what is written for a field, as one expression
 sent-as : (w : ℕ) → sent true w ≡ w + 65535 * (1 - w)
@@ -37,20 +27,9 @@ pub sent-small : (u : Bool) (w : ℕ) → w ≤ 65535 → sent u w ≤ 65535
 sent-small false w h = unfold sent in h
 sent-small true w h = omega (arith, sent-as w)
 
-sent-mod : (u : Bool) (w : ℕ) → sent u w % 65535 ≡ w % 65535
+pub sent-mod : (u : Bool) (w : ℕ) → sent u w % 65535 ≡ w % 65535
 sent-mod false w = unfold sent in refl
 sent-mod true w = omega (arith, sent-as w)
-
--- a block with a part replaced and its field updated: t its total, s with the new bytes in, r with the new field v in too
-module _ (t s r m n hc v : ℕ) (u : Bool) (small : hc ≤ 65535) (bytes : s + m ≡ t + n) (field : r + hc ≡ s + v) (e : v ≡ sent u (updated hc (fold m) (fold n))) where
-  pub block-alike : r % 65535 ≡ t % 65535
-  block-alike = block-keeps t r hc m n v small (ap (λ d. d % 65535) e ∙ sent-mod u (updated hc (fold m) (fold n))) (omega arith)
-
-  -- if it passed, its field is the fresh one: x and y are the totals but for the field
-  pub block-fresh : (x y : ℕ) → x + hc ≡ t → y + v ≡ r → 0 < y → passes t ≡ true → v ≡ sent u (fieldOf (fold y))
-  block-fresh x y a b some p =
-      let w : fieldOf (fold y) % 65535 ≡ fieldOf (fold y) = omega (arith, fold-as y) in
-      e ∙ ap (sent u) (update-renews x y hc m n small (omega arith) (ap passes a ∙ p) ∙ w)
 
 -- a block with its fresh field passes, also as UDP sends it
 pub sent-passes : (t : ℕ) (u : Bool) → passes (t + sent u (fieldOf (fold t))) ≡ true
