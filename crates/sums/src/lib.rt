@@ -55,7 +55,7 @@ pub fn passes(f: Fold) -> bool
 }
 
 // The field after the old bytes' fold gave way to the new bytes': RFC 1624's equation 3, but 0000 where that answers
-// FFFF. It is a remainder, since no two numbers under FFFF are of one class.
+// FFFF. So it is a remainder: each class modulo 65535 has one number under FFFF.
 pub fn update(field: Field, old: Fold, new: Fold) -> Field
     ensures { λ r. ⌜ r .0 ≡ updated (field .0) (old .0) (new .0) ⌝ }
 {
