@@ -39,16 +39,14 @@ pub record MessageKept (u : Bool) (p q : List ℕ) : Type 0 where
   pub stays : u ≡ false → wordAt q (fieldAt p) ≡ wordAt p (fieldAt p)
 
 -- ---- the field is updated
--- t is a block's total, s with a part of it replaced, r with the field as it is sent too
-module _ (t s r m n hc v : ℕ) (u : Bool) (small : hc ≤ 65535) (bytes : s + m ≡ t + n) (field : r + hc ≡ s + v) (e : v ≡ sent u (updated hc (fold m) (fold n))) where
-  block-kept : 0 < r → 0 < t → passes r ≡ passes t
-  block-kept = update-passes t r hc m n v small (ap (λ d. d % 65535) e ∙ sent-mod u (updated hc (fold m) (fold n))) (omega arith)
-
-  -- if it passed, the field is the fresh one: x and y are the totals but for the field
-  block-fresh : (x y : ℕ) → x + hc ≡ t → y + v ≡ r → 0 < y → passes t ≡ true → v ≡ sent u (fieldOf (fold y))
-  block-fresh x y a b some p =
-      let w : fieldOf (fold y) % 65535 ≡ fieldOf (fold y) = omega (arith, fold-as y) in
-      e ∙ ap (sent u) (update-renews x y hc m n small (omega arith) (ap passes a ∙ p) ∙ w)
+-- a block's total is t, s with a part of it replaced, and r with the field as it is sent too; x and y are t and r but for the field
+block-done : (t s r x y m n hc v : ℕ) (u : Bool) → hc ≤ 65535 → s + m ≡ t + n → r + hc ≡ s + v → v ≡ sent u (updated hc (fold m) (fold n))
+    → x + hc ≡ t → y + v ≡ r → 0 < t → 0 < y → (passes r ≡ passes t) × (passes t ≡ true → v ≡ sent u (fieldOf (fold y)))
+block-done t s r x y m n hc v u small bytes field e a b there some =
+    let w : fieldOf (fold y) % 65535 ≡ fieldOf (fold y) = omega (arith, fold-as y) in (
+      update-passes t r hc m n v small (ap (λ d. d % 65535) e ∙ sent-mod u (updated hc (fold m) (fold n))) (omega arith) (omega arith) there,
+      λ p. e ∙ ap (sent u) (update-renews x y hc m n small (omega arith) (ap passes a ∙ p) ∙ w),
+    )
 
 module _ {p q : List ℕ} (k : OuterFacts p) (by : Bytes p) (a : Same p q) (at : ℕ) (new : List ℕ) where
   pub header-done : headerTotal q + weigh (odd at) (part p at (length new)) ≡ headerTotal p + weigh (odd at) new
@@ -62,15 +60,12 @@ module _ {p q : List ℕ} (k : OuterFacts p) (by : Bytes p) (a : Same p q) (at :
       let f' : headerTotal r + wordAt p headerField ≡ headerTotal q + v = rw e at f in
       let w : wordAt r headerField ≡ v = word-wrote v (writeH k a v) in
       let z = same-self p in
-      let hc = word-small p headerField by in
-      let x = block-kept (headerTotal p) (headerTotal q) (headerTotal r) _ _ (wordAt p headerField) v false hc t f' refl (header-some k sr) (header-some k z) in
-      let renewed : headerSums p ≡ true → HeaderFresh r =
-      λ s y.
-      w ∙ block-fresh (headerTotal p) (headerTotal q) (headerTotal r) _ _ (wordAt p headerField) v false hc t f' refl
-      (headerTotal (putWord p headerField 0)) (headerTotal (putWord r headerField 0)) (asideH k z) (ap (λ n. headerTotal (putWord r headerField 0) + n) (sym w) ∙ asideH k sr)
-      (header-some k (sameH k sr 0)) (sums4 p (sym (four-same (sr .header)) ∙ y) ∙ s) in
+      let b = block-done (headerTotal p) (headerTotal q) (headerTotal r) (headerTotal (putWord p headerField 0)) (headerTotal (putWord r headerField 0)) _ _
+      (wordAt p headerField) v false (word-small p headerField by) t f' refl
+      (asideH k z) (ap (λ n. headerTotal (putWord r headerField 0) + n) (sym w) ∙ asideH k sr) (header-some k z) (header-some k (sameH k sr 0)) in
+      let renewed : headerSums p ≡ true → HeaderFresh r = λ s y. w ∙ b .1 (sums4 p (sym (four-same (sr .header)) ∙ y) ∙ s) in
       record {
-        sums = rw (four-same (sr .header), x);
+        sums = rw (four-same (sr .header), b .0);
         fresh = λ g. renewed (header-right k g);
         renewed = λ u. renewed;
         stays = λ n f. absurd (true≢false (sym f ∙ n));
@@ -95,18 +90,13 @@ module _ {p q : List ℕ} (k : Facts p) (by : Bytes p) (a : Same p q) (at : ℕ)
       let q0 = messageTotal (putWord q (fieldAt p) 0) in
       let some2 : 0 < r0 =
       there r0 v (messageTotal r) (wordAt p (fieldAt p)) (messageTotal q) q0 c f' (ap (λ n. q0 + n) (sym e) ∙ asideF k a) some1 in
-      let hc = word-small p (fieldAt p) by in
-      let x = block-kept (messageTotal p) (messageTotal q) (messageTotal r) _ _ (wordAt p (fieldAt p)) v (udp p) hc t f' refl (more r0 v (messageTotal r) c some2) (more _ _ (messageTotal p) z some0) in
-      let renewed : messageSums p ≡ true → MessageFresh r =
-      λ m u.
-      ap (wordAt r) (field-same (sr .header)) ∙ w
-      ∙ block-fresh (messageTotal p) (messageTotal q) (messageTotal r) _ _ (wordAt p (fieldAt p)) v (udp p) hc t f' refl
-      (messageTotal (putWord p (fieldAt p) 0)) r0 z c some2 m
-      ∙ sym (freshF k sr) in
+      let b = block-done (messageTotal p) (messageTotal q) (messageTotal r) (messageTotal (putWord p (fieldAt p) 0)) r0 _ _
+      (wordAt p (fieldAt p)) v (udp p) (word-small p (fieldAt p) by) t f' refl z c (more _ _ (messageTotal p) z some0) some2 in
+      let renewed : messageSums p ≡ true → MessageFresh r = λ m u. ap (wordAt r) (field-same (sr .header)) ∙ w ∙ b .1 m ∙ sym (freshF k sr) in
       record {
         heard = record {
           silent = silent-at sr k ∙ rw w (sent-some (udp p) (updatedAt p (fieldAt p) pos at new)) ∙ sym s;
-          sums = λ g. x;
+          sums = λ g. b .0;
         };
         fresh = λ g. renewed (message-right k g s);
         renewed = λ u. renewed;

@@ -40,7 +40,8 @@ accepted p c =
     (λ f. f)
     (λ f. absurd (true≢false (simp (u, f) at (w .1 .0)))))
 
--- what an edit leaves: new bytes at a place, and beside them only the fields; h and m say whether the header's and the message's are updated
+-- what an edit leaves: new bytes at a place, and beside them only the fields; h says whether the header's is updated, and m whether
+-- the message's
 pub record Kept (h m : Bool) (p q : List ℕ) (at : ℕ) (new : List ℕ) : Type 0 where
   pub accepts : Accepted p
   pub same : Same p q
