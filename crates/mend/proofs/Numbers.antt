@@ -1,6 +1,6 @@
 -- The arithmetic of a field in its block: as it is sent, and as it is worked out anew.
 use Prim.Native.Nat.{ℕ, zero, suc, _+_, _*_, _-_, _%_, _≤_, _<_}
-use mathlib.Core.Path.{_≡_, refl}
+use mathlib.Core.Path.{_≡_, refl, _∙_}
 use mathlib.Core.Logic.{_⊎_, inl, inr}
 use mathlib.Core.Bool.{Bool, true, false, _&&_}
 use native.Mathlib.Omega.{arith}
@@ -8,7 +8,7 @@ use native.Mathlib.Decide.{ℕ-discrete}
 use lib.Dec.{eqb}
 use borrow.Author.Tests.{ne-eqb}
 use Rattle.sums.specs.Fold.{fold, fieldOf, passes}
-use Rattle.sums.proofs.Folds.{fold-as, fold-small, fold-mod}
+use Rattle.sums.proofs.Folds.{fold-as, fold-small, fold-mod, mod-plus}
 use Rattle.sums.proofs.Passing.{passing, passed, fresh-passes}
 use Rattle.mend.specs.Fresh.{sent}
 
@@ -45,10 +45,7 @@ unfolding sent
 passing-fresh t hc u small p some = by u some
   where
     only : (0 < fold t + hc) × ((fold t + hc) % 65535 ≡ 0)
-    only = let k = passed (t + hc) p in (omega (arith, fold-as t), moved (fold t) t (fold-mod t) (k .1))
-      where
-        moved : (a t : ℕ) → a % 65535 ≡ t % 65535 → (t + hc) % 65535 ≡ 0 → (a + hc) % 65535 ≡ 0
-        moved a t h k = omega arith
+    only = let k = passed (t + hc) p in (omega (arith, fold-as t), mod-plus (fold t) t hc hc (fold-mod t) refl ∙ k .1)
 
     by : (u : Bool) → (u ≡ true → 0 < hc) → (hc ≡ sent u (fieldOf (fold t))) ⊎ ((u ≡ false) × (hc ≡ 65535) × (sent u (fieldOf (fold t)) ≡ 0))
     by false some =
