@@ -12,7 +12,7 @@ use Rattle.sums.specs.Partials.{partialOf, nothing, joined, longest, tooLong}
 use Rattle.sums.specs.declared.Partial.{Partial}
 use Rattle.sums.proofs.Folds.{fold-small}
 use Rattle.sums.proofs.Joins.{join-strings, join-assoc, empty-partial, nothing-before, nothing-after}
-use Rattle.sums.proofs.Lefts.{two-more}
+use Rattle.sums.proofs.Rests.{two-more}
 use Rattle.chain.specs.Chain.{fits, pieced, chainOf}
 use Rattle.chain.specs.Sizes.{sizes, taken}
 use Rattle.chain.proofs.Lists.{fits-end, fits-piece, pieced-length}

@@ -9,7 +9,7 @@ use lib.Dec.{leb, eqb}
 use borrow.Author.Tests.{le-leb, lt-leb, leb-true, eqb-true, eqb-false, le-ltb, lt-ltb}
 use Rattle.verdicts.proofs.Tests.{by-cases, and-true}
 use Rattle.sums.specs.Partials.{longest}
-use Rattle.sums.proofs.Lefts.{one-more, two-more}
+use Rattle.sums.proofs.Rests.{one-more, two-more}
 use Rattle.chain.specs.Chain.{fits, pieced}
 use Rattle.chain.specs.Sizes.{sizes, taken}
 

@@ -2,17 +2,22 @@
 //
 // A Fold is what 16-bit addition with end-around carry gives of some bytes, and a Field is its complement, which
 // packets carry: two types, so that neither is stored where the other belongs. Every public function takes any
-// input, but for `join_within`, and its promise is one equation.
+// input, but for `join_within` and the numbers read low byte first, and its promise is one equation.
+mod low;
+
+pub use low::carry;
+pub use low::le2;
+pub use low::le4;
+pub use low::le8;
+pub use low::total;
 use verdicts::Verdict;
 ghost use mathlib.Core.Path.{_≡_};
-ghost use Prim.Native.Nat.{_+_, _≤_, _<_};
-ghost use lib.ListN.{length};
-ghost use Rattle.sums.specs.Total.{odd as Total·odd, weigh, total};
+ghost use Prim.Native.Nat.{_+_, _≤_};
+ghost use Rattle.sums.specs.Total.{odd as Total·odd, weigh};
 ghost use Rattle.sums.specs.Fold.{fold, fieldOf};
 ghost use Rattle.sums.specs.Fold.{passes as Fold·passes};
 ghost use Rattle.sums.specs.Partials.{partialOf, joined, joinOf, longest, swapIf};
 ghost use Rattle.sums.specs.Update.{updated};
-ghost use Rattle.sums.specs.Left.{Left, pairAt};
 
 pub struct Fold(pub u16);
 
@@ -47,11 +52,15 @@ pub fn field_of(f: Fold) -> Field
     Field(65535 - f.0)
 }
 
-// Whether a block with its field in place, whose fold is f, passes.
-pub fn passes(f: Fold) -> bool
-    ensures { λ r. ⌜ r ≡ Fold·passes (f .0) ⌝ }
+// Whether a block with its field in place, whose total is t, passes. A fold is a total too, and so is a total that
+// was counted low byte first.
+pub fn passes(t: u64) -> bool
+    ensures { λ r. ⌜ r ≡ Fold·passes t ⌝ }
 {
-    f.0 == 65535
+    if t == 0 {
+        return false;
+    }
+    t % 65535 == 0
 }
 
 // The field after the old bytes' fold gave way to the new bytes': RFC 1624's equation 3, but 0000 where that answers
@@ -103,30 +112,18 @@ pub fn sum(bytes: &[u8]) -> Partial
     ensures { λ r. ⌜ r ≡ partialOf (now (bytes .entry)) ⌝ }
 {
     Partial {
-        fold: folded(bytes),
+        fold: fold_at(bytes, false),
         length: bytes.len() as u64,
     }
 }
 
-// The fold of a stretch, each byte counted by its position in a block: odd says whether it starts at an odd one.
+// The fold of a stretch, each byte counted by its position in a block: odd says whether it starts at an odd one. At
+// an odd one it is counted low byte first, as the sum does; for an even one the fold's two bytes are exchanged.
 pub fn fold_at(bytes: &[u8], odd: bool) -> Fold
     ensures { λ r. ⌜ r .0 ≡ fold (weigh odd (now (bytes .entry))) ⌝ }
 {
-    let f = folded(bytes);
-    Fold(aligned(odd, f.0))
-}
-
-// The fold of some bytes: the one loop that sums.
-fn folded(bytes: &[u8]) -> Fold
-    ensures { λ r. ⌜ r .0 ≡ fold (total (now (bytes .entry))) ⌝ }
-{
-    let mut acc: u64 = 0;
-    let mut i: usize = 0;
-    while i + 1 < bytes.len() {
-        acc = carry(acc, pair(bytes, i));
-        i += 2;
-    }
-    last(bytes, i, acc)
+    let f = fold_of(low::total(bytes, 0));
+    Fold(aligned(!odd, f.0))
 }
 
 // A fold, with its two bytes exchanged if what it is added to is odd.
@@ -140,41 +137,4 @@ fn is_odd(n: u64) -> bool
     ensures { λ r. ⌜ r ≡ Total·odd n ⌝ }
 {
     n % 2 == 1
-}
-
-// a + b with the carry added in again, so that the fold is the same and no sum grows too large.
-fn carry(a: u64, b: u64) -> u64
-    ensures { λ r. ⌜ fold r ≡ fold (a + b) ⌝ }
-{
-    if a <= u64::MAX - b {
-        a + b
-    } else {
-        a - (u64::MAX - b)
-    }
-}
-
-fn wide(x: u8) -> u64
-    ensures { λ r. ⌜ (r ≡ x) × (r ≤ 255) ⌝ }
-{
-    x as u64
-}
-
-// The word at i.
-fn pair(s: &[u8], i: usize) -> u64
-    requires { ⌜ i + 1 < length (now s) ⌝ }
-    ensures { λ r. ⌜ (r ≡ pairAt (now (s .entry)) i) × (r ≤ 65535) ⌝ }
-{
-    256 * wide(s[i]) + wide(s[i + 1])
-}
-
-// What is left where no two bytes are.
-fn last(bytes: &[u8], i: usize, acc: u64) -> Fold
-    requires { ⌜ (length (now bytes) ≤ i + 1) × Left (now bytes) acc i ⌝ }
-    ensures { λ r. ⌜ r .0 ≡ fold (total (now (bytes .entry))) ⌝ }
-{
-    if i < bytes.len() {
-        fold_of(carry(acc, 256 * wide(bytes[i])))
-    } else {
-        fold_of(acc)
-    }
 }
