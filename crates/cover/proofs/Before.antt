@@ -1,6 +1,7 @@
--- What stands before the message in the covered block: an even number of bytes, and its fold.
-use mathlib.Core.Path.{_≡_, refl, sym, ap, ap₂, _∙_}
-use Prim.Native.Nat.{ℕ, _+_}
+-- What stands before the message in the covered block: an even number of bytes, and its total.
+use mathlib.Core.Path.{_≡_, refl, sym, ap, _∙_}
+use Prim.Native.Nat.{ℕ, _+_, _*_}
+use native.Mathlib.Nat.{zero-add}
 use native.Mathlib.Omega.{arith}
 use mathlib.Core.List.{List}
 use mathlib.Core.Bool.{true, false}
@@ -8,12 +9,14 @@ use lib.ListN.{length}
 use Rattle.verdicts.proofs.Tests.{by-cases}
 use Rattle.sums.specs.Total.{odd, weigh, total}
 use Rattle.sums.specs.Fold.{fold}
-use Rattle.sums.proofs.Totals.{even-append}
-use Rattle.sums.proofs.Joins.{join-even}
+use Rattle.sums.specs.Low.{eightAt}
+use Rattle.sums.proofs.Folds.{fold-sum}
+use Rattle.sums.proofs.Totals.{even-append, weigh-even, low-times}
+use Rattle.sums.proofs.Rests.{more-eight, more-end}
 use Rattle.wire.specs.Bytes.{part}
 use Rattle.wire.specs.Outer.{four, familyOf, protocolOf, addressesAt, addressesLength}
 use Rattle.wire.specs.Messages.{planIn, restIn, beforeIn}
-use Rattle.wire.specs.Inner.{lengthOf, messageBytes, pseudo, addressesOf, beforeOf}
+use Rattle.wire.specs.Inner.{lengthOf, messageBytes, pseudo, addressesOf, beforeOf, coveredOf}
 use Rattle.wire.specs.declared.Family.{Family}
 use Rattle.wire.specs.declared.Family.the-variants.{Four, Six}
 use Rattle.wire.proofs.Parts.{part-length}
@@ -45,26 +48,43 @@ before-even family n addresses size e =
     (λ t. simp t (even-append addresses (restIn family n size) e (rest-even family n size)))
     (λ t. simp t)
 
--- ---- its fold
+-- ---- their totals low byte first, as code adds them up
+-- the addresses: one number, or four
+pub addresses4-low : (xs : List ℕ) (v : ℕ) → length xs ≡ 8 → v ≡ eightAt xs 0 → fold v ≡ fold (weigh true xs)
+addresses4-low xs v h e =
+    more-end xs v 8 (omega arith) ∙ more-eight xs 0 v v 0 8 (omega arith) refl e (ap fold (sym (zero-add v))) ∙ ap fold (zero-add (weigh true xs))
+
+pub addresses6-low : (xs : List ℕ) (a b c d r s t : ℕ) → length xs ≡ 32 → a ≡ eightAt xs 0 → b ≡ eightAt xs 8 → c ≡ eightAt xs 16 → d ≡ eightAt xs 24
+    → fold r ≡ fold (a + b) → fold s ≡ fold (r + c) → fold t ≡ fold (s + d) → fold t ≡ fold (weigh true xs)
+addresses6-low xs a b c d r s t h ea eb ec ed er es et =
+    more-end xs t 32 (omega arith)
+    ∙ more-eight xs s t d 24 32 (omega arith) refl ed et
+    ∙ more-eight xs r s c 16 24 (omega arith) refl ec es
+    ∙ more-eight xs a r b 8 16 (omega arith) refl eb er
+    ∙ more-eight xs 0 a a 0 8 (omega arith) refl ea (ap fold (sym (zero-add a)))
+    ∙ ap fold (zero-add (weigh true xs))
+
 module _ (p : List ℕ) where
-  pub before-none : pseudo p ≡ false → 0 ≡ fold (total (beforeOf p))
-  unfolding weigh fold pseudo
+  pub before-none : pseudo p ≡ false → fold 0 ≡ fold (256 * total (beforeOf p))
+  unfolding weigh pseudo
   before-none t = simp t
 
   module _ (k : Facts p) where
     -- the addresses' added to that of the rest
-    pub before-some : pseudo p ≡ true → (a f : ℕ) → a ≡ fold (total (addressesOf p)) → f ≡ fold (lengthOf p + protocolOf p)
-        → fold (a + f) ≡ fold (total (beforeOf p))
+    pub before-some : pseudo p ≡ true → (rest a r : ℕ) → rest ≡ (lengthOf p + protocolOf p) * 256 → fold a ≡ fold (weigh true (addressesOf p)) → fold r ≡ fold (rest + a)
+        → fold r ≡ fold (256 * total (beforeOf p))
     unfolding pseudo
-    before-some t a f ea ef =
-        let rest = restIn (familyOf p) (protocolOf p) (lengthOf p) in
-        let r : fold (lengthOf p + protocolOf p) ≡ fold (total rest) = ap fold (sym (rest-total (familyOf p) (protocolOf p) (lengthOf p))) in
-        ap₂ (λ x y. fold (x + y)) ea (ef ∙ r) ∙ join-even (addressesOf p) rest (addresses-even p p (k .outer) refl) ∙ simp t
+    before-some t rest a r er ea e =
+        let behind = restIn (familyOf p) (protocolOf p) (lengthOf p) in
+        let w : total (beforeOf p) ≡ total (addressesOf p) + (lengthOf p + protocolOf p) =
+        simp t (weigh-even false (addressesOf p) behind (addresses-even p p (k .outer) refl) ∙ ap (λ n. total (addressesOf p) + n) (rest-total (familyOf p) (protocolOf p) (lengthOf p))) in
+        e ∙ fold-sum rest rest a (256 * total (addressesOf p)) refl (ea ∙ low-times (addressesOf p)) ∙ ap fold (omega arith)
 
     -- and its own added to the message's: the covered block's
-    pub message-joined : fold (fold (total (beforeOf p)) + fold (total (messageBytes p))) ≡ fold (messageTotal p)
+    pub message-low : (b r : ℕ) → fold b ≡ fold (256 * total (beforeOf p)) → fold r ≡ fold (b + weigh true (messageBytes p)) → fold r ≡ fold (256 * messageTotal p)
     unfolding messageTotal
-    message-joined =
-        join-even (beforeOf p) (messageBytes p)
-        (before-even (familyOf p) (protocolOf p) (addressesOf p) (lengthOf p) (addresses-even p p (k .outer) refl))
-        ∙ ap (λ b. fold (total b)) (sym (covered-at (same-self p) k))
+    message-low b r eb e =
+        let w : total (coveredOf p) ≡ total (beforeOf p) + total (messageBytes p) =
+        ap total (covered-at (same-self p) k)
+        ∙ weigh-even false (beforeOf p) (messageBytes p) (before-even (familyOf p) (protocolOf p) (addressesOf p) (lengthOf p) (addresses-even p p (k .outer) refl)) in
+        e ∙ fold-sum b (256 * total (beforeOf p)) (weigh true (messageBytes p)) (256 * total (messageBytes p)) eb (low-times (messageBytes p)) ∙ ap fold (omega arith)

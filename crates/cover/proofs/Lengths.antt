@@ -19,7 +19,7 @@ use Rattle.wire.proofs.Writes.{word-small}
 use Rattle.wire.proofs.Facts.{OuterFacts, Facts}
 use Rattle.wire.proofs.Same.{same-self, covered-at}
 
-declared-small : (p : List ℕ) → Bytes p → declaredEnd p ≤ 65575
+pub declared-small : (p : List ℕ) → Bytes p → declaredEnd p ≤ 65575
 unfolding declaredEnd
 declared-small p b =
     by-cases (four p)

@@ -9,10 +9,19 @@ use wire::Header;
 use wire::Message;
 use wire::Part;
 ghost use mathlib.Core.Path.{_≡_};
+ghost use Rattle.verdicts.specs.Numbers.{numberOf};
 ghost use Rattle.wire.specs.Outer.{outerOf};
 ghost use Rattle.wire.specs.Inner.{Holds};
-ghost use Rattle.cover.specs.Sums.{headerSums, messageSums};
+ghost use Rattle.cover.specs.Sums.{headerSums};
 ghost use Rattle.judge.specs.Judge.{judgeOf, messageVerdict};
+
+// The number of the verdict on a packet. Of a judge that is called from two places LLVM makes one function, and
+// a number comes back from it in a register, where a verdict would come through memory.
+pub fn number(packet: &[u8]) -> u8
+    ensures { λ r. ⌜ r ≡ numberOf (judgeOf (now (packet .entry))) ⌝ }
+{
+    verdicts::number(judge(packet))
+}
 
 // The verdict on a packet.
 pub fn judge(packet: &[u8]) -> Verdict
@@ -37,7 +46,7 @@ pub fn judge(packet: &[u8]) -> Verdict
     }
 }
 
-// Whether the header's sum is right, or there is none.
+// Whether the header's sum is right, or there is none. A header's total isn't 0: the version isn't.
 fn header_sums(packet: &[u8], h: Header) -> bool
     requires { ⌜ Frame.Ip h ≡ outerOf (now packet) ⌝ }
     ensures { λ r. ⌜ r ≡ headerSums (now (packet .entry)) ⌝ }
@@ -45,7 +54,7 @@ fn header_sums(packet: &[u8], h: Header) -> bool
     let family = h.family;
     let end = h.end;
     match family {
-        Family::Four => sums::passes(sums::fold_at(&packet[..end], false)),
+        Family::Four => cover::header_total(&packet[..end]) % 65535 == 0,
         Family::Six => true,
     }
 }
@@ -62,21 +71,9 @@ fn judge_message(packet: &[u8], m: Message) -> Verdict
             Family::Six => Verdict::Missing,
         };
     }
-    if message_sums(packet, m) {
+    if sums::passes(cover::message_total(packet, m)) {
         Verdict::Good
     } else {
         Verdict::MessageSum
     }
-}
-
-// Whether the covered block's sum is right.
-fn message_sums(packet: &[u8], m: Message) -> bool
-    requires { ⌜ Holds (now packet) m ⌝ }
-    ensures { λ r. ⌜ r ≡ messageSums (now (packet .entry)) ⌝ }
-{
-    let start = m.start;
-    let end = m.end;
-    let before = cover::pseudo_sum(packet, m);
-    let message = sums::fold_at(&packet[start..end], false);
-    sums::passes(sums::add(before, message))
 }

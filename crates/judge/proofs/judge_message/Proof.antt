@@ -4,10 +4,12 @@ use Prim.Native.Nat.{ℕ}
 use native.Mathlib.Omega.{arith}
 use mathlib.Core.List.{List}
 use denote.Ref.{now}
+use Rattle.sums.proofs.Passing.{passes-low}
 use Rattle.wire.specs.Outer.{familyOf}
 use Rattle.wire.specs.Inner.{silentOf, fieldAt}
 use Rattle.wire.specs.declared.Message.{Message}
 use Rattle.wire.proofs.Held.{held-facts, held-silent, is-four, is-six}
+use Rattle.cover.specs.Sums.{messageSums}
 use Rattle.judge.proofs.Answers.{unsummed, missing, bad, good}
 use borrow.Author.Needs.{needs}
 use Rattle.judge.proofs.judge_message.Statement.{statement}
@@ -31,11 +33,16 @@ returns c = let q = c .before .before .before in let b = q .before .before in un
 returns-2 : tie.Need-returns-2
 returns-2 c = let q = c .before .before .before in let b = q .before .before in missing (P b) (sym (quiet q) ∙ c .before .before .if1 .taken) (is-six (P b) (sym (family b) ∙ c .enum-told2 .given .1))
 
+-- the total passes where the definition's does
+sums : (c : tie.After-passes) → c .passes .result ≡ messageSums (P (c .before .before .before .before .before))
+unfolding messageSums
+sums c = c .passes .ensures ∙ passes-low _ _ (c .before .message-total .ensures)
+
 returns-3 : tie.Need-returns-3
-returns-3 c = let l = c .before .before in good _ (sym (quiet (l .before)) ∙ l .if1 .left) (sym (c .before .message-sums .ensures) ∙ c .if2 .taken)
+returns-3 c = let l = c .before .before .before in good _ (sym (quiet (l .before)) ∙ l .if1 .left) (sym (sums (c .before)) ∙ c .if2 .taken)
 
 returns-4 : tie.Need-returns-4
-returns-4 c = let l = c .before .before in bad _ (sym (quiet (l .before)) ∙ l .if1 .left) (sym (c .before .message-sums .ensures) ∙ c .if2 .left)
+returns-4 c = let l = c .before .before .before in bad _ (sym (quiet (l .before)) ∙ l .if1 .left) (sym (sums (c .before)) ∙ c .if2 .left)
 
 pub judge-message-spec : {M : Type 1} → statement M
 judge-message-spec =
@@ -46,6 +53,7 @@ judge-message-spec =
     (λ c. search needs)
     returns
     returns-2
+    (λ c κs. search needs)
     (λ c κs. search needs)
     returns-3
     returns-4)

@@ -2,20 +2,19 @@
 use mathlib.Core.Path.{_≡_, _∙_, ap, ap₂}
 use Prim.Native.Nat.{ℕ, _+_, _-_}
 use native.Mathlib.Omega.{arith}
+use mathlib.Core.Bool.{true}
 use mathlib.Core.List.{List}
+use borrow.Author.Needs.{needs}
 use denote.Ref.{now}
-use Rattle.sums.specs.Total.{total}
-use Rattle.sums.specs.Fold.{fold, passes}
-use Rattle.sums.proofs.Passing.{passes-fold}
+use Rattle.sums.specs.Total.{weigh}
+use Rattle.sums.specs.Fold.{fold}
 use Rattle.wire.specs.Bytes.{part}
 use Rattle.wire.specs.Inner.{startOf, endOf}
 use Rattle.wire.specs.declared.Message.{Message}
 use Rattle.wire.proofs.Held.{held-facts}
-use Rattle.cover.specs.Sums.{messageTotal, messageSums}
-use Rattle.cover.proofs.Before.{message-joined}
-use borrow.Author.Needs.{needs}
-use Rattle.judge.proofs.message_sums.Statement.{statement}
-use Rattle.judge.proofs.message_sums.Tie as tie
+use Rattle.cover.proofs.Before.{message-low}
+use Rattle.cover.proofs.message_total.Statement.{statement}
+use Rattle.cover.proofs.message_total.Tie as tie
 
 abbrev P : tie.Start → List ℕ
 P c = now (c .args .packet)
@@ -27,24 +26,19 @@ end : (c : tie.Start) → c .args .m .end ≡ endOf (P c)
 end c = ap (λ (m : Message). m .end) (c .pre .is)
 
 returns : tie.Need-returns
-unfolding messageSums
 returns c =
-    let b = c .before .before .before .before .before .before in
-    let m = c .before .before .fold-at .ensures ∙ ap₂ (λ (s e : ℕ). fold (total (part (P b) s (e - s)))) (start b) (end b) in
-    c .passes .ensures
-    ∙ ap passes
-    (c .before .add .ensures ∙ ap₂ (λ (x y : ℕ). fold (x + y)) (c .before .before .before .before .pseudo-sum .ensures) m ∙ message-joined (P b) (held-facts (b .pre)))
-    ∙ passes-fold (messageTotal (P b))
+    let d = c .before .before in
+    let b = d .before .before in
+    message-low (P b) (held-facts (b .pre)) (d .pseudo-total .result) _ (d .pseudo-total .ensures)
+    (c .total .ensures ∙ ap₂ (λ (s e : ℕ). fold (d .pseudo-total .result + weigh true (part (P b) s (e - s)))) (start b) (end b))
 
-pub message-sums-spec : {M : Type 1} → statement M
-message-sums-spec =
+pub message-total-spec : {M : Type 1} → statement M
+message-total-spec =
     tie.close
     (tie.spec
     (λ c κs. search needs)
     (λ c. let b = c .before .before in let e = start b in let g = end b in let f = held-facts (b .pre) in omega arith)
     (λ c. let b = c .before .before in let e = start b in let g = end b in let f = held-facts (b .pre) in omega arith)
     (λ c. let b = c .before .before in let e = start b in let g = end b in let f = held-facts (b .pre) in omega arith)
-    (λ c κs. search needs)
-    (λ c κs. search needs)
     (λ c κs. search needs)
     returns)
