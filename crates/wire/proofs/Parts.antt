@@ -1,12 +1,12 @@
 -- Parts of a byte string: their bytes and lengths, and strings of bytes put together.
-use mathlib.Core.Path.{_≡_, refl, sym, ap₂, _∙_}
+use mathlib.Core.Path.{_≡_, refl, sym, ap, ap₂, _∙_}
 use Prim.Native.Nat.{ℕ, zero, suc, _+_, _-_, _*_, _≤_, _<_}
 use native.Mathlib.Omega.{arith}
 use native.Mathlib.Decide.{decLt}
 use native.Mathlib.Nat.{add-assoc}
 use mathlib.Core.List.{List, [], _∷_, _++_}
 use lib.ListN.{length, take, drop, length-take, length-drop}
-use lib.Seq.{take-add, drop-drop, length-take-le, getD-take, getD-drop, ext-getD}
+use lib.Seq.{take-add, drop-drop, drop-cons, length-take-le, getD-take, getD-drop, ext-getD}
 use Rattle.wire.specs.Bytes.{byteAt, wordAt, Bytes, part}
 
 -- ---- a part
@@ -54,6 +54,17 @@ part-cut p a b c h k =
     let e : c - a ≡ (b - a) + (c - b) = omega arith in
     let f : a + (b - a) ≡ b = omega arith in
     rw e (part-add p a (b - a) (c - b) ∙ rw f)
+
+-- a part, byte by byte
+abbrev pub each : List ℕ → ℕ → ℕ → List ℕ
+each p a zero = []
+each p a (suc n) = byteAt p a ∷ each p (suc a) n
+
+pub part-each : (p : List ℕ) (a n : ℕ) → a + n ≤ length p → each p a n ≡ part p a n
+part-each p a zero h = refl
+part-each p a (suc n) h =
+    let k : a < length p = omega arith in
+    rw (drop-cons p a 0 k) (ap (λ (xs : List ℕ). byteAt p a ∷ xs) (part-each p (suc a) n (omega arith)))
 
 -- ---- strings of bytes
 pub bytes-append : (a b : List ℕ) → Bytes a → Bytes b → Bytes (a ++ b)
