@@ -3,7 +3,7 @@ use mathlib.Core.Path.{_≡_}
 use Prim.Native.Nat.{ℕ, _+_, _-_, _*_, _/_, _%_, _<_, _≤_}
 use native.Mathlib.Omega.{arith}
 use mathlib.Core.List.{List}
-use mathlib.Core.Bool.{true, false, true≢false}
+use mathlib.Core.Bool.{Bool, true, false, true≢false}
 use lib.ListN.{length}
 use lib.Dec.{ltb}
 use borrow.Author.Tests.{ltb-false, eqb-true, ne-eqb, not-false}
@@ -11,7 +11,7 @@ use Rattle.verdicts.specs.Rules.{clear}
 use Rattle.verdicts.proofs.Tests.{by-cases, or-false}
 use Rattle.wire.specs.Bytes.{byteAt, wordAt}
 use Rattle.wire.specs.Outer.{four, six, versionOf, header4Of, headerEnd, declaredEnd, familyOf, protocolOf, addressesAt, addressesLength, outerRules}
-use Rattle.wire.specs.Messages.{planIn, offsetIn, shapeRules}
+use Rattle.wire.specs.Messages.{planIn, offsetIn, misfitOf, shapeRules}
 use Rattle.wire.specs.Inner.{startOf, carriedOf, endOf, lengthOf, messageRules, rowIn, bodyOf, tcp, udp, fieldAt, pseudo}
 use Rattle.wire.proofs.Parts.{part-length, part-byte, part-word}
 use Rattle.wire.proofs.Lines.{Lined, row-lined, covered}
@@ -66,6 +66,10 @@ module _ {p : List ℕ} (k : OuterFacts p) where
   pub carried-word : (i : ℕ) → startOf p + i + 1 < declaredEnd p → wordAt (carriedOf p) i ≡ wordAt p (startOf p + i)
   unfolding carriedOf
   carried-word i h = part-word p (startOf p) (declaredEnd p - startOf p) i (omega arith)
+
+-- the test of its lengths
+abbrev pub misfits : List ℕ → Bool
+misfits p = misfitOf (protocolOf p) (offsetIn (carriedOf p)) (length (carriedOf p)) (wordAt (carriedOf p) 4)
 
 pub record Facts (p : List ℕ) : Type 0 where
   pub outer : OuterFacts p

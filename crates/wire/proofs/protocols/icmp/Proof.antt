@@ -1,0 +1,24 @@
+-- Each return is a case of `innerOf` for a protocol that says no length.
+use mathlib.Core.Path.{_∙_}
+use native.Mathlib.Omega.{arith}
+use denote.Ref.{now}
+use Rattle.wire.proofs.InnerCases.{Room, room, short, plain-fits}
+use Rattle.wire.proofs.protocols.icmp.Statement.{statement}
+use Rattle.wire.proofs.protocols.icmp.Tie as tie
+
+known : (c : tie.Start) → Room (now (c .args .packet)) (c .args .h) (c .args .plan)
+known c = room _ _ (c .pre .0 .0) _ (c .pre .0 .1)
+
+returns-2 : tie.Need-returns-2
+returns-2 c =
+    let d = c .before .before .before .before .before .pre in
+    c .placed .ensures ∙ plain-fits _ _ (d .0 .0) _ (d .0 .1) (omega arith) (d .1 .0) (d .1 .1)
+
+pub icmp-spec : {M : Type 1} → statement M
+icmp-spec =
+    tie.close
+    (tie.spec
+    (λ c. let k = known (c .before .before) in omega arith)
+    (λ c. let d = c .before .before .before .before .pre in short _ _ (d .0 .0) _ (d .0 .1) (omega arith))
+    (λ c κs. let k = known (c .before .before .before .before) in omega arith)
+    returns-2)

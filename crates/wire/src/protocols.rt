@@ -1,0 +1,89 @@
+// The shape of a message, protocol by protocol, each for the line of the table that its header leads to.
+use crate::Frame;
+use crate::Header;
+use crate::Message;
+use crate::Part;
+use crate::Plan;
+use crate::Row;
+use crate::bits::high;
+use crate::bits::wide;
+use crate::bits::word;
+use verdicts::Verdict;
+ghost use mathlib.Core.Path.{_≡_};
+ghost use Prim.Native.Nat.{_+_, _≤_};
+ghost use Rattle.wire.specs.Outer.{outerOf};
+ghost use Rattle.wire.specs.Table.{rowOf};
+ghost use Rattle.wire.specs.Inner.{innerOf};
+
+// Where lengths stand in a message.
+const DATA_OFFSET: usize = 12;
+
+const UDP_LENGTH: usize = 4;
+
+// ICMP and ICMPv6 say no length of their own.
+pub fn icmp(packet: &[u8], h: Header, plan: Plan) -> Part
+    requires { ⌜ (Frame.Ip h ≡ outerOf (now packet)) × (rowOf (h .family) (h .protocol) ≡ Row.Covered plan) ⌝ }
+    requires { ⌜ (h .protocol ≡ 6 → ⊥) × (h .protocol ≡ 17 → ⊥) ⌝ }
+    ensures { λ r. ⌜ r ≡ innerOf (now (packet .entry)) ⌝ }
+{
+    if h.declared - h.end < plan.fixed {
+        return Part::Refused(Verdict::Shape);
+    }
+    placed(h, plan, plan.fixed)
+}
+
+// TCP's body begins behind the data offset.
+pub fn tcp(packet: &[u8], h: Header, plan: Plan) -> Part
+    requires { ⌜ (Frame.Ip h ≡ outerOf (now packet)) × (rowOf (h .family) (h .protocol) ≡ Row.Covered plan) ⌝ }
+    requires { ⌜ h .protocol ≡ 6 ⌝ }
+    ensures { λ r. ⌜ r ≡ innerOf (now (packet .entry)) ⌝ }
+{
+    let start = h.end;
+    let length = h.declared - start;
+    if length < plan.fixed {
+        return Part::Refused(Verdict::Shape);
+    }
+    let body = wide(high(packet[start + DATA_OFFSET])) * 4;
+    if body < plan.fixed {
+        return Part::Refused(Verdict::Shape);
+    }
+    if length < body {
+        return Part::Refused(Verdict::Shape);
+    }
+    placed(h, plan, body)
+}
+
+// UDP says its length.
+pub fn udp(packet: &[u8], h: Header, plan: Plan) -> Part
+    requires { ⌜ (Frame.Ip h ≡ outerOf (now packet)) × (rowOf (h .family) (h .protocol) ≡ Row.Covered plan) ⌝ }
+    requires { ⌜ h .protocol ≡ 17 ⌝ }
+    ensures { λ r. ⌜ r ≡ innerOf (now (packet .entry)) ⌝ }
+{
+    let start = h.end;
+    let length = h.declared - start;
+    if length < plan.fixed {
+        return Part::Refused(Verdict::Shape);
+    }
+    if word(packet, start + UDP_LENGTH) as usize != length {
+        return Part::Refused(Verdict::Shape);
+    }
+    placed(h, plan, plan.fixed)
+}
+
+// The message whose body begins so many bytes behind its start.
+fn placed(h: Header, plan: Plan, body: usize) -> Part
+    requires { ⌜ (h .end + plan .field ≤ h .declared) × (h .end + body ≤ h .declared) ⌝ }
+    ensures { λ r. ⌜ r ≡ Part.Whole (record { family = h .family; header = h .end; start = h .end; end = h .declared; protocol = h .protocol; field = h .end + plan .field; body = h .end + body; pseudo = plan .pseudo }) ⌝ }
+{
+    let family = h.family;
+    Part::Whole(Message {
+        family,
+        header: h.end,
+        start: h.end,
+        end: h.declared,
+        protocol: h.protocol,
+        field: h.end + plan.field,
+        body: h.end + body,
+        pseudo: plan.pseudo,
+    })
+}
