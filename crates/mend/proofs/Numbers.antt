@@ -1,14 +1,15 @@
 -- The arithmetic of a field in its block: as it is sent, and as it is worked out anew.
-use Prim.Native.Nat.{ℕ, zero, suc, _+_, _*_, _-_, _%_, _≤_, _<_}
-use mathlib.Core.Path.{_≡_, refl, _∙_}
+use Prim.Native.Nat.{ℕ, zero, suc, _+_, _*_, _-_, _/_, _%_, _≤_, _<_}
+use mathlib.Core.Path.{_≡_, refl, sym, ap, _∙_}
 use mathlib.Core.Logic.{_⊎_, inl, inr}
 use mathlib.Core.Bool.{Bool, true, false, _&&_}
+use native.Mathlib.Nat.{add-mul-mod-self-left}
 use native.Mathlib.Omega.{arith}
 use native.Mathlib.Decide.{ℕ-discrete}
 use lib.Dec.{eqb}
-use borrow.Author.Tests.{ne-eqb}
-use Rattle.sums.specs.Fold.{fold, fieldOf, passes}
-use Rattle.sums.proofs.Folds.{fold-as, fold-small, fold-mod, mod-plus}
+use borrow.Author.Tests.{eq-eqb, ne-eqb}
+use Rattle.sums.specs.Fold.{fold, fieldOf, passes, swap}
+use Rattle.sums.proofs.Folds.{fold-as, fold-small, fold-mod, fold-times, swap-swap, swap-field, mod-in, mod-plus}
 use Rattle.sums.proofs.Passing.{passing, passed, fresh-passes}
 use Rattle.mend.specs.Fresh.{sent}
 
@@ -56,3 +57,62 @@ passing-fresh t hc u small p some = by u some
         let h = some refl in
         let w = fieldOf (fold t) in
         inl (elim (ℕ-discrete (fold t) 65535) [ yes e ↦ omega (arith, sent-as w) | no e ↦ omega (arith, sent-as w, fold-small t) ])
+
+-- ---- a field worked out low byte first; t is the total of the block but for the field, and code counts 256 * t
+pub fresh-low : (t f : ℕ) → f ≡ fold (256 * t) → swap (65535 - f) ≡ fieldOf (fold t)
+fresh-low t f e =
+    let s = e ∙ fold-times t in
+    let n = fold-small t in
+    swap-field f (omega (arith, e, fold-small (256 * t))) ∙ ap (λ n. 65535 - swap n) s ∙ ap (λ n. 65535 - n) (swap-swap (fold t) n)
+
+-- where 65535 doesn't divide it
+pub fresh-some : (t r : ℕ) (u : Bool) → r ≡ (256 * t) % 65535 → ¬ (r ≡ 0) → swap (65535 - r) ≡ sent u (fieldOf (fold t))
+fresh-some t r u e n = by u
+  where
+    is : swap (65535 - r) ≡ fieldOf (fold t)
+    is = fresh-low t r (omega (arith, fold-mod (256 * t), fold-small (256 * t)))
+
+    by : (u : Bool) → swap (65535 - r) ≡ sent u (fieldOf (fold t))
+    by false = unfold sent in is
+    by true = let s : 0 < swap (65535 - r) = omega arith in omega (arith, sent-as (fieldOf (fold t)), is)
+
+-- where code counts 0
+pub zero-low : (r t : ℕ) → fold r ≡ fold (256 * t) → eqb r 0 ≡ eqb t 0
+zero-low r t e =
+    elim (ℕ-discrete t 0) [
+      | yes z ↦ eq-eqb r 0 (omega (arith, fold-as r, fold-as (256 * t))) ∙ sym (eq-eqb t 0 z)
+      | no z ↦ ne-eqb r 0 (λ y. z (omega (arith, fold-as r, fold-as (256 * t)))) ∙ sym (ne-eqb t 0 z)
+    ]
+
+-- where it does
+pub divides : (t : ℕ) → (256 * t) % 65535 ≡ 0 → t % 65535 ≡ 0
+divides t e = mod-in t 0 t (256 * (256 * t / 65535)) (omega arith)
+
+pub fresh-udp : (t : ℕ) → t % 65535 ≡ 0 → 65535 ≡ sent true (fieldOf (fold t))
+fresh-udp t e = omega (arith, fold-as t, sent-as (fieldOf (fold t)))
+
+pub fresh-zero : (t : ℕ) → t % 65535 ≡ 0 → 0 < t → 0 ≡ sent false (fieldOf (fold t))
+unfolding sent
+fresh-zero t e h = omega (arith, fold-as t)
+
+pub fresh-blank : (t : ℕ) → t ≡ 0 → 65535 ≡ sent false (fieldOf (fold t))
+unfolding sent
+fresh-blank t e = omega (arith, fold-as t)
+
+-- a block's total less its field f, which is the word hc low byte first
+pub less-field : (t hc high m f r : ℕ) → fold m ≡ fold (256 * (t + hc)) → 256 * hc ≡ f + 65535 * high → f ≤ 65535 → fold r ≡ fold (m + (65535 - f))
+    → r % 65535 ≡ (256 * t) % 65535
+less-field t hc high m f r em eh small er =
+    let a = alike r (m + (65535 - f)) er in
+    let b = alike m (256 * (t + hc)) em in
+    let c : 256 * (t + hc) + (65535 - f) ≡ 256 * t + 65535 * (high + 1) = omega arith in
+    a ∙ mod-plus m (256 * (t + hc)) (65535 - f) (65535 - f) b refl ∙ ap (λ n. n % 65535) c ∙ add-mul-mod-self-left (256 * t) 65535 (high + 1)
+  where
+    alike : (a b : ℕ) → fold a ≡ fold b → a % 65535 ≡ b % 65535
+    alike a b e = sym (fold-mod a) ∙ ap (λ n. n % 65535) e ∙ fold-mod b
+
+-- the header's, whose total isn't 0
+pub fresh-header : (t r : ℕ) → fold r ≡ fold (256 * t) → 0 < r → swap (65534 - (r - 1) % 65535) ≡ fieldOf (fold t)
+fresh-header t r e h =
+    let k : 65534 - (r - 1) % 65535 ≡ 65535 - fold r = omega (arith, fold-as r) in
+    ap swap k ∙ fresh-low t (fold r) e

@@ -1,27 +1,27 @@
--- A block with a word of it read as 0000: the sum of what stands before the word added to that of what follows it.
-use Prim.Native.Nat.{ℕ, _+_, _-_, _%_, _≤_}
-use mathlib.Core.Path.{_≡_, refl, sym, ap, ap₂, _∙_}
-use mathlib.Core.Bool.{false}
+-- A block with a word of it read as 0000: the total of what stands before the word added to that of what follows it.
+use Prim.Native.Nat.{ℕ, _+_, _*_, _-_, _%_, _≤_, _<_}
+use mathlib.Core.Path.{_≡_, ap, ap₂, _∙_}
+use mathlib.Core.Bool.{true, false}
 use mathlib.Core.List.{List, [], _∷_, _++_}
 use native.Mathlib.Omega.{arith}
 use lib.ListN.{length}
 use Rattle.sums.specs.Total.{odd, weigh, total}
-use Rattle.sums.specs.Fold.{fold, fieldOf}
-use Rattle.sums.proofs.Folds.{fold-both}
-use Rattle.sums.proofs.Totals.{weigh-even}
-use Rattle.sums.proofs.Joins.{join-even}
+use Rattle.sums.specs.Fold.{fold, swap}
+use Rattle.sums.proofs.Folds.{fold-as, fold-sum}
+use Rattle.sums.proofs.Totals.{weigh-even, low-times}
 use Rattle.wire.specs.Bytes.{part, putWord}
-use Rattle.wire.specs.Outer.{familyOf, protocolOf, headerEnd, addressesAt, addressesLength, headerField}
-use Rattle.wire.specs.Messages.{beforeIn}
-use Rattle.wire.specs.Inner.{startOf, endOf, lengthOf, fieldAt, addressesOf, beforeOf, coveredOf}
+use Rattle.wire.specs.Outer.{headerEnd, headerField}
+use Rattle.wire.specs.Inner.{startOf, lengthOf, fieldAt, pseudo}
 use Rattle.wire.proofs.Parts.{part-length, part-cut}
 use Rattle.wire.proofs.Facts.{Facts}
 use Rattle.wire.proofs.Writes.{Wrote, part-below, part-above, part-they, put-wrote}
-use Rattle.wire.proofs.Same.{same-self, header-end-same, covered-at}
+use Rattle.wire.proofs.Same.{same-self, header-end-same}
 use Rattle.cover.specs.Sums.{headerTotal, messageTotal}
-use Rattle.cover.proofs.Before.{addresses-even, before-even}
+use Rattle.cover.proofs.Totals.{addressTotal, restTotal, message-parts}
+use Rattle.cover.proofs.Blocks.{header-some}
 use Rattle.mend.specs.Fresh.{freshHeader}
-use Rattle.mend.proofs.Fresh.{sameH, writeF, sameF}
+use Rattle.mend.proofs.Numbers.{fresh-header}
+use Rattle.mend.proofs.Fresh.{sameH, sameF}
 
 module _ (p : List ℕ) (a f e : ℕ) (low : a ≤ f) (even : (f - a) % 2 ≡ 0) (high : f + 2 ≤ e) (fits : e ≤ length p) where
   w : Wrote p (putWord p f 0) f (0 ∷ 0 ∷ [])
@@ -40,30 +40,26 @@ module _ (p : List ℕ) (a f e : ℕ) (low : a ≤ f) (even : (f - a) % 2 ≡ 0)
       ap total (part-cut q a f e low (omega arith) ∙ ap₂ _++_ (part-below w a (f - a) (omega arith) (omega arith)) behind)
       ∙ weigh-even false x (0 ∷ 0 ∷ y) o ∙ omega arith
 
-  pub without : (s t : ℕ) → s ≡ fold (total (part p a (f - a))) → t ≡ fold (total (part p (f + 2) (e - (f + 2))))
-      → fold (s + t) ≡ fold (total (part (putWord p f 0) a (e - a)))
-  without s t es et = ap₂ (λ x y. fold (x + y)) es et ∙ fold-both _ _ ∙ sym (ap fold without-total)
+  -- the same as code counts it
+  pub without-low : (s t : ℕ) → fold s ≡ fold (weigh true (part p a (f - a))) → fold t ≡ fold (s + weigh true (part p (f + 2) (e - (f + 2))))
+      → fold t ≡ fold (256 * total (part (putWord p f 0) a (e - a)))
+  without-low s t es et =
+      let x = part p a (f - a) in
+      let y = part p (f + 2) (e - (f + 2)) in
+      et ∙ fold-sum s (256 * total x) (weigh true y) (256 * total y) (es ∙ low-times x) (low-times y) ∙ ap fold (omega (arith, without-total))
 
--- ---- the fresh fields, as code works them out
+-- ---- the blocks of a packet
 module _ (p : List ℕ) (k : Facts p) where
-  pub header-without : (s : ℕ) → s ≡ headerEnd p → fieldOf (fold (total (part (putWord p headerField 0) 0 (s - 0)))) ≡ freshHeader p
+  pub header-without : (t : ℕ) → fold t ≡ fold (256 * total (part (putWord p headerField 0) 0 (headerEnd p - 0))) → (0 < t) × (swap (65534 - (t - 1) % 65535) ≡ freshHeader p)
   unfolding freshHeader headerTotal
-  header-without s e =
-      let n : s - 0 ≡ headerEnd (putWord p headerField 0) = omega (arith, header-end-same (sameH (k .outer) (same-self p) 0 .header)) in
-      ap (λ (n : ℕ). fieldOf (fold (total (part (putWord p headerField 0) 0 n)))) n
+  header-without t e =
+      let s = sameH (k .outer) (same-self p) 0 in
+      let n : headerEnd p - 0 ≡ headerEnd (putWord p headerField 0) = omega (arith, header-end-same (s .header)) in
+      let h = e ∙ ap (λ (n : ℕ). fold (256 * total (part (putWord p headerField 0) 0 n))) n in
+      let some : 0 < t = omega (arith, fold-as t, fold-as (256 * headerTotal (putWord p headerField 0)), header-some (k .outer) s) in
+      (some, fresh-header (headerTotal (putWord p headerField 0)) t h some)
 
-  pub message-without : (s e f x y : ℕ) → s ≡ startOf p → e ≡ endOf p → f ≡ fieldAt p
-      → x ≡ fold (total (beforeOf p)) → y ≡ fold (total (part (putWord p f 0) s (e - s)))
-      → fold (x + y) ≡ fold (messageTotal (putWord p (fieldAt p) 0))
-  unfolding messageTotal
-  message-without s e f x y es ee ef ex ey =
-      let q = putWord p (fieldAt p) 0 in
-      let m = part q (startOf p) (lengthOf p) in
-      let w = writeF k (same-self p) 0 in
-      let y' : y ≡ fold (total m) = ey ∙ rw (es, ee, ef) in
-      let addresses : part q (addressesAt p) (addressesLength p) ≡ addressesOf p = part-below w (addressesAt p) (addressesLength p) (omega arith) (omega arith) in
-      let covered : coveredOf q ≡ beforeOf p ++ m =
-      covered-at (sameF k (same-self p) 0) k ∙ ap (λ a. beforeIn (familyOf p) (protocolOf p) a (lengthOf p) ++ m) addresses in
-      ap₂ (λ a b. fold (a + b)) ex y'
-      ∙ join-even (beforeOf p) m (before-even (familyOf p) (protocolOf p) (addressesOf p) (lengthOf p) (addresses-even p p (k .outer) refl))
-      ∙ ap (λ b. fold (total b)) (sym covered)
+  -- without a pseudo-header the message is the block
+  pub plain-total : pseudo p ≡ false → messageTotal (putWord p (fieldAt p) 0) ≡ total (part (putWord p (fieldAt p) 0) (startOf p) (lengthOf p))
+  unfolding addressTotal restTotal
+  plain-total t = message-parts k (sameF k (same-self p) 0) ∙ simp t (omega arith)

@@ -72,6 +72,13 @@ fold-times t = omega (arith, fold-as t, fold-as (256 * t))
 pub fold-swap : (n : ℕ) → fold (swap n) ≡ fold (256 * n)
 fold-swap n = sym (ap fold (omega arith) ∙ fold-turns (swap n) (n / 256) (λ z. omega arith))
 
+-- exchanged twice it is as it was, and the field of an exchanged fold is the field exchanged
+pub swap-swap : (f : ℕ) → f ≤ 65535 → swap (swap f) ≡ f
+swap-swap f h = omega arith
+
+pub swap-field : (f : ℕ) → f ≤ 65535 → swap (65535 - f) ≡ 65535 - swap f
+swap-field f h = omega arith
+
 -- alike modulo 65535, as an equation that omega reads; and back
 pub mod-out : (a b : ℕ) → a % 65535 ≡ b % 65535 → a + 65535 * (b / 65535) ≡ b + 65535 * (a / 65535)
 mod-out a b h = omega arith

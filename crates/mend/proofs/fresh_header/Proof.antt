@@ -1,14 +1,20 @@
 -- The header with its field read as 0000.
-use mathlib.Core.Path.{_≡_, _∙_, ap}
-use Prim.Native.Nat.{ℕ}
+use mathlib.Core.Path.{_≡_, _∙_, sym, ap}
+use Prim.Native.Nat.{ℕ, _+_, _-_, _*_, _%_, _<_}
 use native.Mathlib.Omega.{arith}
+use mathlib.Core.Bool.{true}
 use mathlib.Core.List.{List}
+use lib.Seq.{length-take-le}
 use denote.Ref.{now}
-use Rattle.sums.specs.Fold.{fieldOf}
-use Rattle.wire.specs.Outer.{headerEnd}
+use Rattle.sums.specs.Total.{weigh, total}
+use Rattle.sums.specs.Fold.{fold, swap}
+use Rattle.wire.specs.Bytes.{part, putWord}
+use Rattle.wire.specs.Outer.{headerEnd, headerField}
 use Rattle.wire.specs.declared.Message.{Message}
+use Rattle.wire.proofs.Parts.{part-length}
 use Rattle.wire.proofs.Held.{held-facts}
-use Rattle.mend.proofs.Without.{header-without}
+use Rattle.mend.specs.Fresh.{freshHeader}
+use Rattle.mend.proofs.Without.{without-low, header-without}
 use borrow.Author.Needs.{needs}
 use Rattle.mend.proofs.fresh_header.Statement.{statement}
 use Rattle.mend.proofs.fresh_header.Tie as tie
@@ -17,18 +23,42 @@ abbrev P : tie.Start → List ℕ
 P c = now (c .args .packet)
 
 end : (c : tie.Start) → c .args .m .header ≡ headerEnd (P c)
-end c = ap (λ (m : Message). m .header) (c .pre .is)
+end c = ap (λ (m : Message). m .header) (c .pre .0 .is)
 
-returns : tie.Need-returns
-returns c =
-    let b = c .before .before .before in
-    c .field-of .ensures ∙ ap fieldOf (c .before .fold-without .ensures)
-    ∙ header-without (P b) (held-facts (b .pre)) _ (end b)
+-- an IPv4 header is a number of 4-byte words
+words : (c : tie.Start) → headerEnd (P c) % 4 ≡ 0
+unfolding headerEnd
+words c = simp (c .pre .1) (omega arith)
+
+after-field-requires : tie.Need-after-field-requires
+after-field-requires c κs =
+    let b = c .before .before .before .before in
+    let f = held-facts (b .pre .0) in
+    let e = end b in
+    let w = words b in
+    let l = part-length (P b) 12 (b .args .m .header - 12) (omega arith) in
+    (omega arith, omega arith)
+
+made : (c : tie.After-after-field) → let p = P (c .before .before .before .before .before) in let t = c .after-field .result in (0 < t) × (swap (65534 - (t - 1) % 65535) ≡ freshHeader p)
+made c =
+    let b = c .before .before .before .before .before in
+    let f = held-facts (b .pre .0) in
+    let e = end b in
+    header-without (P b) f _
+    (without-low (P b) 0 headerField (b .args .m .header) (omega arith) (omega arith) (omega arith) (omega arith) _ _
+    (c .before .before .before-field .ensures) (c .after-field .ensures)
+    ∙ ap (λ (n : ℕ). fold (256 * total (part (putWord (P b) headerField 0) 0 (n - 0)))) e)
 
 pub fresh-header-spec : {M : Type 1} → statement M
 fresh-header-spec =
     tie.close
     (tie.spec
-    (λ c κs. let f = held-facts (c .before .pre) in let e = end (c .before) in omega arith)
-    (λ c κs. search needs)
-    returns)
+    (λ c. let b = c .before .before in let f = held-facts (b .pre .0) in sym (length-take-le 10 (P b) (omega arith)))
+    (λ c κs. let b = c .before .before in let f = held-facts (b .pre .0) in length-take-le 10 (P b) (omega arith))
+    (λ c. let b = c .before .before .before in let f = held-facts (b .pre .0) in let e = end b in omega arith)
+    (λ c. let b = c .before .before .before in let f = held-facts (b .pre .0) in let e = end b in omega arith)
+    (λ c. let b = c .before .before .before in let f = held-facts (b .pre .0) in let e = end b in omega arith)
+    after-field-requires
+    (λ c. let m = made c .0 in omega arith)
+    (λ c. omega arith)
+    (λ c. (omega arith, made c .1)))

@@ -1,49 +1,67 @@
--- A refusal, or both fields set one after the other.
-use mathlib.Core.Path.{_≡_, _∙_, sym, ap}
+-- A refusal, or both fields set.
+use mathlib.Core.Path.{_≡_, _∙_, sym, ap, ap₂}
 use Prim.Native.Nat.{ℕ}
+use mathlib.Core.Bool.{false}
 use mathlib.Core.List.{List}
 use denote.Ref.{now}
-use Rattle.verdicts.specs.declared.Verdict.the-variants.{Good}
-use Rattle.wire.specs.Inner.{Holds, wholeOf}
-use Rattle.wire.specs.declared.Message.{Message}
-use Rattle.wire.specs.declared.Part.the-variants.{Whole}
-use Rattle.wire.proofs.Same.{holds-same}
-use Rattle.wire.proofs.Held.{by-whole, held-whole, held-facts}
-use Rattle.mend.specs.Mend.{mendedMessage, mendOf}
-use Rattle.mend.proofs.Fresh.{mended-same}
+use Rattle.verdicts.specs.declared.Verdict.{Verdict}
+use Rattle.wire.specs.Outer.{outerOf, fragmentOf}
+use Rattle.wire.specs.Inner.{innerOf}
+use Rattle.wire.specs.declared.Header.{Header}
+use Rattle.wire.specs.declared.Frame.the-variants.{Ip}
+use Rattle.wire.specs.declared.Part.{Part}
+use Rattle.wire.proofs.Held.{by-whole, headed, held-inner, refused-outer, split-whole, inner-whole}
+use Rattle.mend.specs.Mend.{mendOf}
 use borrow.Author.Needs.{needs}
 use Rattle.mend.proofs.mend.Statement.{statement}
 use Rattle.mend.proofs.mend.Tie as tie
 
-abbrev P : tie.After-part2 → List ℕ
-P c = now (c .before .before .before .before .before .args .packet)
+abbrev P : tie.After-known-told2 → List ℕ
+P c = now (c .before .before .before .before .before .before .args .packet)
 
-abbrev M : tie.After-part2 → Message
-M c = c .part2 .given .0 .0
+abbrev H : tie.After-known-told2 → Header
+H c = c .before .frame2 .given .0 .0
 
-whole : (c : tie.After-part2) → Whole (M c) ≡ wholeOf (P c)
-whole c = sym (c .part2 .given .1) ∙ c .before .before .whole .ensures
+ip : (c : tie.After-known-told2) → Ip (H c) ≡ outerOf (P c)
+ip c = sym (c .before .frame2 .given .1) ∙ c .before .before .before .outer .ensures
 
-holds : (c : tie.After-part2) → Holds (P c) (M c)
-holds c = held-whole (P c) (M c) (whole c) .holds
+fragment : (c : tie.After-known-told2) → H c .fragment ≡ fragmentOf (P c)
+fragment c = ap (λ (h : Header). h .fragment) (headed (P c) (H c) (ip c) .is)
 
-mend-message-requires : tie.Need-mend-message-requires
-mend-message-requires c κs =
-    let d = c .before .before .before .before .before .before in
-    rw (c .before .before .before .mend-header .ensures) (holds-same (mended-same (held-facts (holds d) .outer)) (holds d))
+-- what `inner` answers is what the whole order does
+unsplit : (c : tie.Else1) → fragmentOf (P (c .before)) ≡ false
+unsplit c = sym (fragment (c .before)) ∙ c .if1 .left
 
 returns : tie.Need-returns
 unfolding mendOf
-returns c = simp (by-whole, sym (sym (c .before .part .given .1) ∙ c .before .before .before .whole .ensures))
+returns c = let f = c .before in simp (by-whole, sym (split-whole (P f) (H f) (ip f) (sym (fragment f) ∙ c .if1 .taken)))
 
 returns-2 : tie.Need-returns-2
 unfolding mendOf
-returns-2 c =
+returns-2 c = simp (by-whole, sym (refused-outer _ _ (sym (c .before .frame .given .1) ∙ c .before .before .before .outer .ensures)))
+
+mend-whole-requires : tie.Need-mend-whole-requires
+mend-whole-requires c κs =
+    let i = c .before .before .before .before in
+    held-inner _ _ _ (ip (i .before .before .before)) (sym (c .before .before .part2 .given .1) ∙ i .inner .ensures)
+
+returns-3 : tie.Need-returns-3
+unfolding mendOf
+returns-3 c =
+    let i = c .before .before .before in
+    let e = i .before .before in
+    let f = e .before in
+    simp (by-whole, sym (sym (c .before .part .given .1) ∙ i .inner .ensures ∙ inner-whole (P f) (H f) (ip f) (unsplit e)))
+
+returns-4 : tie.Need-returns-4
+unfolding mendOf
+returns-4 c =
     let m = c .before .before in
-    let h = m .before .before .before .before in
-    let d = h .before .before .before in
-    ap (λ (q : List ℕ). (Good, q)) (m .mend-message .ensures ∙ ap mendedMessage (h .mend-header .ensures))
-    ∙ sym (simp (by-whole, sym (whole d)))
+    let i = m .before .before .before .before .before in
+    let e = i .before .before in
+    let f = e .before in
+    ap₂ (λ (v : Verdict) (q : List ℕ). (v, q)) (m .mend-whole .ensures .0) (m .mend-whole .ensures .1)
+    ∙ sym (simp (by-whole, sym (sym (m .before .before .before .part2 .given .1) ∙ i .inner .ensures ∙ inner-whole (P f) (H f) (ip f) (unsplit e))))
 
 pub mend-spec : {M : Type 1} → statement M
 mend-spec =
@@ -52,9 +70,15 @@ mend-spec =
     (λ c κs. search needs)
     (λ c. search needs)
     (λ c. search needs)
-    (λ c κs. holds (c .before .before))
-    mend-message-requires
     (λ c. search needs)
     returns
+    (λ c κs. ip (c .before .before))
     (λ c. search needs)
-    returns-2)
+    (λ c. search needs)
+    mend-whole-requires
+    (λ c. search needs)
+    returns-2
+    (λ c. search needs)
+    returns-3
+    (λ c. search needs)
+    returns-4)

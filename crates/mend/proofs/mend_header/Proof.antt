@@ -2,10 +2,11 @@
 use mathlib.Core.Path.{_≡_, _∙_, sym, ap}
 use Prim.Native.Nat.{ℕ}
 use native.Mathlib.Omega.{arith}
+use mathlib.Core.Bool.{true}
 use mathlib.Core.List.{List}
 use denote.Ref.{now}
 use Rattle.wire.specs.Bytes.{putWord}
-use Rattle.wire.specs.Outer.{familyOf, headerField}
+use Rattle.wire.specs.Outer.{four, familyOf, headerField}
 use Rattle.wire.specs.declared.Message.{Message}
 use Rattle.wire.proofs.Held.{held-facts, is-four, is-six}
 use Rattle.mend.specs.Mend.{mendedHeader}
@@ -19,14 +20,24 @@ P c = now (c .args .packet)
 family : (c : tie.Start) → c .args .m .family ≡ familyOf (P c)
 family c = ap (λ (m : Message). m .family) (c .pre .is)
 
+four4 : (c : tie.After-enum-told) → four (P (c .before .before .before)) ≡ true
+four4 c = let b = c .before .before .before in is-four (P b) (sym (family b) ∙ c .enum-told .given .1)
+
+put-low-requires : tie.Need-put-low-requires
+put-low-requires c κs =
+    let d = c .before in
+    let f = held-facts (d .before .before .before .before .before .pre) in
+    (omega arith, d .fresh-header .ensures .0)
+
 returns : tie.Need-returns
 unfolding mendedHeader
 returns c =
     let d = c .before .before .before .before in
-    let b = d .before .before .before .before .before in
-    c .before .before .put-word .ensures
-    ∙ ap (λ (w : ℕ). putWord (P b) headerField w) (d .fresh-header .ensures)
-    ∙ sym (simp (is-four (P b) (sym (family b) ∙ d .before .before .enum-told .given .1)))
+    let e = d .before .before in
+    let b = e .before .before .before in
+    c .before .before .put-low .ensures
+    ∙ ap (λ (w : ℕ). putWord (P b) headerField w) (d .fresh-header .ensures .1)
+    ∙ sym (simp (four4 e))
 
 returns-2 : tie.Need-returns-2
 unfolding mendedHeader
@@ -37,8 +48,8 @@ mend-header-spec =
     tie.close
     (tie.spec
     (λ c. search needs)
-    (λ c κs. search needs)
-    (λ c κs. let f = held-facts (c .before .before .before .before .before .before .pre) in omega arith)
+    (λ c κs. (c .before .before .before .before .pre, four4 (c .before)))
+    put-low-requires
     (λ c. search needs)
     (λ c. search needs)
     returns

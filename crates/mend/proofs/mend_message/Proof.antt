@@ -23,12 +23,13 @@ returns : tie.Need-returns
 unfolding mendedMessage
 returns c = sym (simp (sym (c .before .kept .ensures) ∙ c .if1 .taken))
 
-put-word-requires : tie.Need-put-word-requires
-put-word-requires c κs =
-    let b = c .before .before .before .before .before .before .before in
+put-low-requires : tie.Need-put-low-requires
+put-low-requires c κs =
+    let d = c .before in
+    let b = d .before .before .before .before .before .before in
     let f = held-facts (b .pre) in
     let e = field b in
-    omega arith
+    (omega arith, d .fresh-message .ensures .0)
 
 returns-2 : tie.Need-returns-2
 unfolding mendedMessage
@@ -36,8 +37,8 @@ returns-2 c =
     let d = c .before .before .before .before in
     let i = d .before .before in
     let b = i .before .before .before .before in
-    c .before .before .put-word .ensures
-    ∙ ap₂ (λ (f w : ℕ). putWord (P b) f w) (field b) (d .fresh-message .ensures)
+    c .before .before .put-low .ensures
+    ∙ ap₂ (λ (f w : ℕ). putWord (P b) f w) (field b) (d .fresh-message .ensures .1)
     ∙ sym (simp (sym (i .before .kept .ensures) ∙ i .if1 .left))
 
 pub mend-message-spec : {M : Type 1} → statement M
@@ -48,6 +49,6 @@ mend-message-spec =
     (λ c. search needs)
     returns
     (λ c κs. search needs)
-    put-word-requires
+    put-low-requires
     (λ c. search needs)
     returns-2)
