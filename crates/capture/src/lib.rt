@@ -2,9 +2,8 @@
 //
 // Any bytes may be handed in. What a record's head says stands in `head_at` alone, and what a record is in `record_at`;
 // the passes over a capture, and whoever else walks one, go by them.
-use judge::judge;
+use judge::number;
 use verdicts::Verdict;
-use verdicts::number;
 use wire::word;
 ghost use mathlib.Core.Path.{_≡_};
 ghost use Prim.Native.Nat.{_≤_};
@@ -183,7 +182,7 @@ fn judge_each(capture: &[u8], verdicts: &mut [u8])
         let Found::Record { start, end } = found else {
             return;
         };
-        verdicts[i] = number(judge(&capture[start..end]));
+        verdicts[i] = number(&capture[start..end]);
         i += 1;
         at = end;
     }

@@ -24,7 +24,7 @@ ghost use Rattle.hifrostum.specs.Answers.{numbered, counted, summed};
 pub extern "C" fn hifrostum_judge(packet: &[u8]) -> u8
     ensures { λ r. ⌜ r ≡ numberOf (judgeOf (now (packet .entry))) ⌝ }
 {
-    verdicts::number(judge::judge(packet))
+    judge::number(packet)
 }
 
 // Sets a packet's sum fields fresh.

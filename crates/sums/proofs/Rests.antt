@@ -1,16 +1,19 @@
 -- Laws of what the sum's loops keep: a number more, in any way that keeps the fold.
-use Prim.Native.Nat.{ℕ, _+_, _*_, _-_, _/_, _%_, _≤_, _<_}
+use Prim.Native.Nat.{ℕ, zero, suc, _+_, _*_, _/_, _%_, _^_, _≤_, _<_}
 use mathlib.Core.Path.{_≡_, refl, sym, ap, _∙_}
-use mathlib.Core.Bool.{true}
+use mathlib.Core.Bool.{true, false, _||_}
 use mathlib.Core.List.{List, [], _∷_}
-use native.Mathlib.Nat.{zero-add, add-zero}
+use native.Mathlib.Nat.{add-zero}
 use native.Mathlib.Numerals.{add-one}
 use native.Mathlib.Omega.{arith}
 use lib.ListN.{length, getD, drop, drop-of-length-le}
-use lib.Seq.{drop-cons}
+use lib.Dec.{ltb}
+use lib.Seq.{drop-cons, drop-drop}
+use borrow.Author.Tests.{ltb-true, ltb-false}
+use Rattle.verdicts.proofs.Tests.{by-cases, or-false}
 use Rattle.sums.specs.Fold.{fold}
 use Rattle.sums.specs.Total.{weigh}
-use Rattle.sums.specs.Low.{twoAt, fourAt, eightAt, restAt, Rest, Bulk}
+use Rattle.sums.specs.Low.{twoAt, fourAt, eightAt, restAt, Room}
 use Rattle.sums.proofs.Folds.{fold-add, fold-turns}
 
 -- the element at i, and what stands after it
@@ -37,21 +40,16 @@ module _ (xs : List ℕ) where
       let b : restAt xs (i + 2) ≡ twoAt xs (i + 2) + restAt xs (i + 4) = rest-two (i + 2) (omega arith) ∙ ap (λ n. twoAt xs (i + 2) + restAt xs n) k in
       ap fold (omega arith) ∙ fold-turns (t + restAt xs i) (twoAt xs (i + 2)) (λ z. omega arith)
 
-  rest-halves : (i t : ℕ) → i + 7 < length xs → fold (t + (fourAt xs i + fourAt xs (i + 4)) + restAt xs (i + 8)) ≡ fold (t + restAt xs i)
-  rest-halves i t h =
-      let k : i + 8 ≡ i + 4 + 4 = omega arith in
-      let m : t + (fourAt xs i + fourAt xs (i + 4)) ≡ t + fourAt xs i + fourAt xs (i + 4) = omega arith in
-      ap (λ n. fold (t + (fourAt xs i + fourAt xs (i + 4)) + restAt xs n)) k
-      ∙ ap (λ n. fold (n + restAt xs (i + 4 + 4))) m
-      ∙ rest-four (i + 4) (t + fourAt xs i) (omega arith)
-      ∙ rest-four i t (omega arith)
-
-  pub rest-eight : (i t : ℕ) → i + 7 < length xs → fold (t + eightAt xs i + restAt xs (i + 8)) ≡ fold (t + restAt xs i)
+  rest-eight : (i t : ℕ) → i + 7 < length xs → fold (t + eightAt xs i + restAt xs (i + 8)) ≡ fold (t + restAt xs i)
   unfolding eightAt
   rest-eight i t h =
+      let k : i + 4 + 4 ≡ i + 8 = omega arith in
+      let r = t + fourAt xs i + fourAt xs (i + 4) + restAt xs (i + 8) in
       ap fold (omega arith)
-      ∙ fold-turns (t + (fourAt xs i + fourAt xs (i + 4)) + restAt xs (i + 8)) (65537 * fourAt xs (i + 4)) (λ z. omega arith)
-      ∙ rest-halves i t h
+      ∙ fold-turns r (65537 * fourAt xs (i + 4)) (λ z. omega arith)
+      ∙ ap (λ n. fold (t + fourAt xs i + fourAt xs (i + 4) + restAt xs n)) (sym k)
+      ∙ rest-four (i + 4) (t + fourAt xs i) (omega arith)
+      ∙ rest-four i t (omega arith)
 
   rest-one : (i : ℕ) → i + 1 ≡ length xs → restAt xs i ≡ getD xs i 0
   unfolding weigh
@@ -86,60 +84,81 @@ module _ (xs : List ℕ) where
   pub more-end : (t i : ℕ) → length xs ≤ i → fold t ≡ fold (t + restAt xs i)
   more-end t i h = ap fold (sym (add-zero t)) ∙ ap (λ n. fold (t + n)) (sym (rest-none i h))
 
-  -- ---- the vector loop
-  pub bulk-start : Bulk xs 0 0 0
-  bulk-start =
-      record { low = 0; few = omega arith; high = omega arith; sum = omega arith; rest = record { within = omega arith; whole = refl } }
+  -- ---- the loop: two totals, t of what the first chain added and u of what the second did
+  pub rest-more : (seed t u r s i : ℕ) → fold (r + restAt xs (i + 64)) ≡ fold (t + restAt xs i) → fold (s + restAt xs (i + 128)) ≡ fold (u + restAt xs (i + 64))
+      → fold (t + u + restAt xs i) ≡ fold (seed + weigh true xs) → fold (r + s + restAt xs (i + 128)) ≡ fold (seed + weigh true xs)
+  rest-more seed t u r s i e f h =
+      let a : r + s + restAt xs (i + 128) ≡ s + restAt xs (i + 128) + r = omega arith in
+      let b : u + restAt xs (i + 64) + r ≡ r + restAt xs (i + 64) + u = omega arith in
+      let c : t + restAt xs i + u ≡ t + u + restAt xs i = omega arith in
+      ap fold a ∙ fold-add (s + restAt xs (i + 128)) (u + restAt xs (i + 64)) r f
+      ∙ ap fold b ∙ fold-add (r + restAt xs (i + 64)) (t + restAt xs i) u e
+      ∙ ap fold c ∙ h
 
-  pub bulk-more : (w h i v x g : ℕ) → i + 7 < length xs → v ≡ eightAt xs i → v ≤ 18446744073709551615 → fourAt xs i ≤ 4294967295
-      → x ≡ (w + v) % 18446744073709551616 → g ≡ h + v / 4294967296 → Bulk xs w h i → Bulk xs x g (i + 8)
-  unfolding eightAt
-  bulk-more w h i v x g n e m f k j b =
-      let y : v / 4294967296 ≡ fourAt xs (i + 4) = omega arith in
-      let z : fourAt xs (i + 4) ≤ 4294967295 = omega arith in
-      let s = b .sum in
-      let l : b .low + fourAt xs i + g ≡ b .low + h + (fourAt xs i + fourAt xs (i + 4)) = omega arith in
-      record {
-        low = b .low + fourAt xs i;
-        few = omega (arith, b .few);
-        high = omega (arith, b .high);
-        sum = omega arith;
-        rest = record {
-          within = omega arith;
-          whole = ap (λ k. fold (k + restAt xs (i + 8))) l ∙ rest-halves i (b .low + h) n ∙ b .rest .whole;
-        };
-      }
+-- ---- a full adder: n is the sum of a and v, m that of n and the carry c, each modulo 2 ^ 64
+module _ (a c v n m : ℕ) (room : Room a c) (small : v ≤ 18446744073709551615)
+    (en : n ≡ (a + v) % 18446744073709551616) (em : m ≡ (n + c) % 18446744073709551616) where
+  pub step-over : (ltb n v || ltb m n) ≡ true → Room m 1 × (fold (m + 1) ≡ fold (a + c + v))
+  step-over h =
+      let e : a + c + v ≡ m + 18446744073709551616 =
+      by-cases (ltb n v)
+      (λ l. let k = ltb-true n v l in omega arith)
+      (λ l. let k = ltb-true m n (simp l at h) in omega arith) in
+      ((omega arith, omega arith), sym (ap fold (e ∙ omega arith) ∙ fold-turns (m + 1) 281479271743489 (λ z. omega arith)))
 
-  -- w less 2 ^ 32 times the high halves, modulo 2 ^ 64
-  low-halves : (L H w r : ℕ) → L < 18446744073709551616 → r < 18446744073709551616
-      → w ≡ (L + 4294967296 * H) % 18446744073709551616
-      → (r + H % 4294967296 * 4294967296) % 18446744073709551616 ≡ w
-      → r ≡ L
-  low-halves L H w r l k e h = omega arith
+  pub step-under : (ltb n v || ltb m n) ≡ false → Room m 0 × (fold (m + 0) ≡ fold (a + c + v))
+  step-under h =
+      let o = or-false (ltb n v) (ltb m n) h in
+      let k = ltb-false n v (o .0) in
+      let l = ltb-false m n (o .1) in
+      ((omega arith, omega arith), ap fold (omega arith))
 
-  pub bulk-end : (w h i r q : ℕ) → Bulk xs w h i → i ≤ 4294967296 → r < 18446744073709551616
-      → (r + h % 4294967296 * 4294967296) % 18446744073709551616 ≡ w → fold q ≡ fold (r + h) → fold (q + restAt xs i) ≡ fold (weigh true xs)
-  bulk-end w h i r q b n m e f =
-      let l = low-halves (b .low) h w r (omega (arith, b .few)) m (b .sum) e in
-      fold-add q (r + h) (restAt xs i) f ∙ ap (λ k. fold (k + h + restAt xs i)) l ∙ b .rest .whole ∙ ap fold (zero-add (weigh true xs))
+-- ---- the number of some bytes, and what is left of it where the lowest are shifted out
+unfoldable lowOf : List ℕ → ℕ
+lowOf [] = 0
+lowOf (x ∷ xs) = x + 256 * lowOf xs
 
-  -- ---- the whole
-  pub rest-start : (seed : ℕ) → Rest xs seed seed 0
-  rest-start seed = record { within = omega arith; whole = refl }
+low-fold : (xs : List ℕ) (t : ℕ) → fold (t + lowOf xs) ≡ fold (t + weigh true xs)
+unfolding lowOf weigh
+low-fold [] t = refl
+low-fold (x ∷ []) t = ap fold (omega arith)
+low-fold (x ∷ y ∷ xs) t =
+    let a : t + (x + 256 * (y + 256 * lowOf xs)) ≡ t + x + 256 * y + lowOf xs + 65535 * lowOf xs = omega arith in
+    let b : t + x + 256 * y + weigh true xs ≡ t + (x + (256 * y + weigh true xs)) = omega arith in
+    ap fold a ∙ fold-turns (t + x + 256 * y + lowOf xs) (lowOf xs) (λ z. omega arith) ∙ low-fold xs (t + x + 256 * y) ∙ ap fold b
 
-  pub rest-bulk : (seed q t i : ℕ) → i ≤ length xs → fold (q + restAt xs i) ≡ fold (weigh true xs) → fold t ≡ fold (seed + q) → Rest xs seed t i
-  rest-bulk seed q t i h e f =
-      let a : seed + q + restAt xs i ≡ q + restAt xs i + seed = omega arith in
-      let b : weigh true xs + seed ≡ seed + weigh true xs = omega arith in
-      record {
-        within = h;
-        whole = fold-add t (seed + q) (restAt xs i) f ∙ ap fold a ∙ fold-add (q + restAt xs i) (weigh true xs) seed e ∙ ap fold b;
-      }
+-- eight bytes low byte first, with the k lowest shifted out
+low-shift : (a b c d e f g h : ℕ) → (a < 256) × (b < 256) × (c < 256) × (d < 256) × (e < 256) × (f < 256) × (g < 256) × (h < 256) → (k : ℕ) → k < 8
+    → (a + 256 * b + 65536 * (c + 256 * d) + 4294967296 * (e + 256 * f + 65536 * (g + 256 * h))) / 2 ^ (8 * k)
+    ≡ lowOf (drop k (a ∷ b ∷ c ∷ d ∷ e ∷ f ∷ g ∷ h ∷ []))
+unfolding lowOf
+low-shift a b c d e f g h s zero l = omega arith
+low-shift a b c d e f g h s (suc zero) l = omega arith
+low-shift a b c d e f g h s (suc (suc zero)) l = omega arith
+low-shift a b c d e f g h s (suc (suc (suc zero))) l = omega arith
+low-shift a b c d e f g h s (suc (suc (suc (suc zero)))) l = omega arith
+low-shift a b c d e f g h s (suc (suc (suc (suc (suc zero))))) l = omega arith
+low-shift a b c d e f g h s (suc (suc (suc (suc (suc (suc zero)))))) l = omega arith
+low-shift a b c d e f g h s (suc (suc (suc (suc (suc (suc (suc zero))))))) l = omega arith
+low-shift a b c d e f g h s (suc (suc (suc (suc (suc (suc (suc (suc k)))))))) l = absurd (omega arith)
 
-  pub rest-more : (seed t i r s a b j : ℕ) → i + 15 < length xs → a ≡ eightAt xs i → b ≡ eightAt xs j → j ≡ i + 8
-      → fold r ≡ fold (t + a) → fold s ≡ fold (r + b) → Rest xs seed t i → Rest xs seed s (i + 16)
-  rest-more seed t i r s a b j h e f k x y z =
-      record {
-        within = omega arith;
-        whole = more-eight r s b j (i + 16) (omega arith) (omega arith) f y ∙ more-eight t r a i j (omega arith) k e x ∙ z .whole;
-      }
+-- so of the last eight bytes what is left from j on
+module _ (xs : List ℕ) (i : ℕ) (long : i + 8 ≡ length xs) (small : (j : ℕ) → getD xs j 0 < 256) where
+  pairs : (j k : ℕ) → j + 1 < length xs → k ≡ j + 2 → drop j xs ≡ getD xs j 0 ∷ getD xs (j + 1) 0 ∷ drop k xs
+  pairs j k h e = two-more xs j h ∙ ap (λ n. getD xs j 0 ∷ getD xs (j + 1) 0 ∷ drop n xs) (sym e)
+
+  pub rest-shifted : (t k j : ℕ) → k < 8 → j ≡ i + k → fold (t + eightAt xs i / 2 ^ (8 * k)) ≡ fold (t + restAt xs j)
+  unfolding eightAt fourAt twoAt
+  rest-shifted t k j h e =
+      let end : length xs ≤ i + 8 = omega arith in
+      let eight =
+      pairs i (i + 2) (omega arith) refl
+      ∙ ap (λ l. getD xs i 0 ∷ getD xs (i + 1) 0 ∷ l) (pairs (i + 2) (i + 4) (omega arith) (omega arith)
+      ∙ ap (λ l. getD xs (i + 2) 0 ∷ getD xs (i + 2 + 1) 0 ∷ l) (pairs (i + 4) (i + 4 + 2) (omega arith) refl
+      ∙ ap (λ l. getD xs (i + 4) 0 ∷ getD xs (i + 4 + 1) 0 ∷ l) (pairs (i + 4 + 2) (i + 8) (omega arith) (omega arith)
+      ∙ ap (λ l. getD xs (i + 4 + 2) 0 ∷ getD xs (i + 4 + 2 + 1) 0 ∷ l) (drop-of-length-le xs end)))) in
+      let shifted =
+      low-shift _ _ _ _ _ _ _ _ (small i, small (i + 1), small (i + 2), small (i + 2 + 1), small (i + 4), small (i + 4 + 1), small (i + 4 + 2), small (i + 4 + 2 + 1)) k h
+      ∙ ap (λ l. lowOf (drop k l)) (sym eight) in
+      ap (λ n. fold (t + n)) shifted ∙ low-fold (drop k (drop i xs)) t
+      ∙ ap (λ l. fold (t + weigh true l)) (drop-drop k i xs ∙ ap (λ n. drop n xs) (sym e))

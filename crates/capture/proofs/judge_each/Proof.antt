@@ -5,7 +5,6 @@ use Prim.Native.Nat.{_-_}
 use native.Mathlib.Omega.{arith}
 use denote.Enum.Declared.{tagOf}
 use lib.ListN.{length}
-use Rattle.verdicts.specs.Numbers.{numberOf}
 use Rattle.capture.proofs.Found.{the-type}
 use Rattle.capture.proofs.Places.{Passed, past-here, none-left}
 use Rattle.capture.proofs.Passes.{Judging, judging-start, judging-place, judging-record, judging-end}
@@ -29,12 +28,12 @@ returns c =
     judging-end (none-left _ _ (b .record-at .result) (past-here _ _ _ (b .record-at .ensures)) (λ s e q. ⊎-elim (λ k. omega (arith, ap (tagOf the-type) q)) (λ k. omega (arith, ap (tagOf the-type) q)) (c .match .keys2))) (b .before .loop .inv)
 
 add-i : tie.Need-add-i Inv-loop μ-loop
-add-i c = let k = c .before .before .before in let h = judging-place (passed k) (k .before .before .before .before .loop .inv) in omega arith
+add-i c = let k = c .before .before in let h = judging-place (passed k) (k .before .before .before .before .loop .inv) in omega arith
 
 loop-again : tie.Need-loop-again Inv-loop μ-loop
 loop-again c =
-    let k = c .before .before .before in
-    judging-record (passed k) (c .number .ensures ∙ ap numberOf (c .before .judge .ensures)) (k .before .before .before .before .loop .inv)
+    let k = c .before .before in
+    judging-record (passed k) (c .number .ensures) (k .before .before .before .before .loop .inv)
 
 pub judge-each-spec : {M : Type 1} → statement M
 judge-each-spec =
@@ -51,8 +50,7 @@ judge-each-spec =
     (λ c. passed c .order)
     (λ c. passed c .within)
     (λ c κs. search needs)
-    (λ c κs. search needs)
-    (λ c. let k = c .before .before .before in judging-place (passed k) (k .before .before .before .before .loop .inv))
+    (λ c. let k = c .before .before in judging-place (passed k) (k .before .before .before .before .loop .inv))
     add-i
-    (λ c. let p = passed (c .before .before .before) in omega arith)
+    (λ c. let p = passed (c .before .before) in omega arith)
     loop-again)

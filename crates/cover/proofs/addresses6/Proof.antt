@@ -10,7 +10,7 @@ returns c =
     let e = d .before .before in
     let f = e .before .before in
     addresses6-low _ _ _ _ _ _ _ _ (f .before .before .before .pre)
-    (f .before .le8 .ensures .0) (f .le82 .ensures .0) (e .le83 .ensures .0) (d .le84 .ensures .0)
+    (f .before .le8 .ensures) (f .le82 .ensures) (e .le83 .ensures) (d .le84 .ensures)
     (e .before .carry .ensures) (d .before .carry2 .ensures) (c .carry3 .ensures)
 
 pub addresses6-spec : {M : Type 1} → statement M

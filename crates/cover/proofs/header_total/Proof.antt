@@ -19,8 +19,8 @@ returns c =
     let l = b .pre .0 in
     c .fours .ensures
     ∙ more-four xs _ _ _ 16 20 (omega arith) refl (d .before .le4 .ensures .0) (d .carry2 .ensures)
-    ∙ more-eight xs _ _ _ 8 16 (omega arith) refl (e .before .le82 .ensures .0) (e .carry .ensures)
-    ∙ more-eight xs 0 _ _ 0 8 (omega arith) refl (e .before .before .le8 .ensures .0) (ap fold (sym (zero-add _)))
+    ∙ more-eight xs _ _ _ 8 16 (omega arith) refl (e .before .le82 .ensures) (e .carry .ensures)
+    ∙ more-eight xs 0 _ _ 0 8 (omega arith) refl (e .before .before .le8 .ensures) (ap fold (sym (zero-add _)))
     ∙ ap fold (zero-add _)
     ∙ low-times xs
 

@@ -66,7 +66,7 @@ returns-2 c =
     let b = entry (f .before .before) in
     let k = known b in
     before-some (P b) (k .facts) (some (f .before .before)) _ _ _ (omega arith)
-    (simp (four4 f) (addresses4-low _ _ (part-length (P b) 12 8 (omega arith)) (c .before .le8 .ensures .0))) (c .carry .ensures)
+    (simp (four4 f) (addresses4-low _ _ (part-length (P b) 12 8 (omega arith)) (c .before .le8 .ensures))) (c .carry .ensures)
 
 returns-3 : tie.Need-returns-3
 returns-3 c =

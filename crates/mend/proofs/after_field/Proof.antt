@@ -12,7 +12,7 @@ returns c =
     let b = c .before .before .before .before in
     let l = b .pre in
     c .fours .ensures
-    ∙ more-eight (now (b .args .b)) _ _ _ 0 8 (omega arith) refl (c .before .before .le8 .ensures .0) (c .before .carry .ensures)
+    ∙ more-eight (now (b .args .b)) _ _ _ 0 8 (omega arith) refl (c .before .before .le8 .ensures) (c .before .carry .ensures)
 
 pub after-field-spec : {M : Type 1} → statement M
 after-field-spec = tie.close (tie.spec (λ c κs. search needs) (λ c κs. search needs) (λ c κs. search needs) returns)

@@ -16,7 +16,7 @@ returns c =
     let l = b .pre in
     more-end xs _ 10 (omega arith)
     ∙ more-two xs _ _ _ 8 10 (omega arith) refl (c .before .le2 .ensures .0) (c .carry .ensures)
-    ∙ more-eight xs 0 _ _ 0 8 (omega arith) refl (c .before .before .le8 .ensures .0) (ap fold (sym (zero-add _)))
+    ∙ more-eight xs 0 _ _ 0 8 (omega arith) refl (c .before .before .le8 .ensures) (ap fold (sym (zero-add _)))
     ∙ ap fold (zero-add _)
 
 pub before-field-spec : {M : Type 1} → statement M
