@@ -1,4 +1,4 @@
-// The shape of a message, protocol by protocol, each for the line of the table that its header leads to.
+// The shape of a message, protocol by protocol, by the line of the table that its header leads to.
 use crate::Frame;
 use crate::Header;
 use crate::Message;
@@ -20,7 +20,7 @@ const DATA_OFFSET: usize = 12;
 
 const UDP_LENGTH: usize = 4;
 
-// ICMP and ICMPv6 say no length of their own.
+// ICMP and ICMPv6 say no length of their own: the packet is asked for by the contract alone.
 pub fn icmp(packet: &[u8], h: Header, plan: Plan) -> Part
     requires { ⌜ (Frame.Ip h ≡ outerOf (now packet)) × (rowOf (h .family) (h .protocol) ≡ Row.Covered plan) ⌝ }
     requires { ⌜ (h .protocol ≡ 6 → ⊥) × (h .protocol ≡ 17 → ⊥) ⌝ }
@@ -32,7 +32,7 @@ pub fn icmp(packet: &[u8], h: Header, plan: Plan) -> Part
     placed(h, plan, plan.fixed)
 }
 
-// TCP's body begins behind the data offset.
+// TCP's data offset says where the body begins, behind the fixed header and inside the message.
 pub fn tcp(packet: &[u8], h: Header, plan: Plan) -> Part
     requires { ⌜ (Frame.Ip h ≡ outerOf (now packet)) × (rowOf (h .family) (h .protocol) ≡ Row.Covered plan) ⌝ }
     requires { ⌜ h .protocol ≡ 6 ⌝ }
@@ -53,7 +53,7 @@ pub fn tcp(packet: &[u8], h: Header, plan: Plan) -> Part
     placed(h, plan, body)
 }
 
-// UDP says its length.
+// UDP says its length, which is the message's.
 pub fn udp(packet: &[u8], h: Header, plan: Plan) -> Part
     requires { ⌜ (Frame.Ip h ≡ outerOf (now packet)) × (rowOf (h .family) (h .protocol) ≡ Row.Covered plan) ⌝ }
     requires { ⌜ h .protocol ≡ 17 ⌝ }
