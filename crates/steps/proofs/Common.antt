@@ -1,56 +1,52 @@
--- The common order of the edits: its answers, and how an edit's own rules go on after it.
+-- The common order of the edits: its answers, with whatever is answered where no common rule refuses.
 use Prim.Native.Nat.{ℕ}
-use mathlib.Core.Path.{_≡_, sym, _∙_}
+use mathlib.Core.Path.{_≡_, sym, ap, _∙_}
 use mathlib.Core.Bool.{true, false}
-use mathlib.Core.List.{List, _++_}
-use native.Mathlib.Omega.{arith}
-use Rattle.verdicts.specs.Rules.{Rule, first}
+use mathlib.Core.List.{List, _++_, append-assoc}
+use Rattle.verdicts.specs.Rules.{first}
 use Rattle.verdicts.specs.declared.Verdict.{Verdict}
-use Rattle.verdicts.specs.declared.Verdict.the-variants.{Missing}
-use Rattle.verdicts.proofs.Tests.{by-cases}
-use Rattle.verdicts.proofs.Rules.{first-append, first-map, first-is, clear-both}
-use Rattle.wire.specs.Outer.{four, fragmentRule, outerRules}
-use Rattle.wire.specs.Inner.{Holds, messageOf, messageRules, silentOf, wholeOf, wholeRules}
+use Rattle.verdicts.specs.declared.Verdict.the-variants.{Fragment}
+use Rattle.wire.specs.Outer.{familyOf, four, fragmentOf, fragmentRule, outerOf, outerRules}
+use Rattle.wire.specs.Inner.{Holds, innerOf, messageRules, wholeRules}
+use Rattle.wire.specs.declared.Family.the-variants.{Four, Six}
+use Rattle.wire.specs.declared.Header.{Header}
+use Rattle.wire.specs.declared.Frame.the-variants as frame
 use Rattle.wire.specs.declared.Message.{Message}
-use Rattle.wire.specs.declared.Part.the-variants.{Refused, Whole}
-use Rattle.wire.proofs.Held.{parted, after-whole, held-whole}
+use Rattle.wire.specs.declared.Part.the-variants as part
+use Rattle.wire.proofs.Held.{after-outer, after-inner, headed, is-four, is-six}
 use Rattle.judge.specs.Judge.{missingRule}
 use Rattle.kept.specs.Edits.{editRules}
-use Rattle.steps.specs.Steps.{editableOf}
 
--- ---- each answer of `editableOf`
-editable-as : (p : List ℕ) → editableOf p ≡ parted Refused (first (missingRule p) Refused (Whole (messageOf p))) (wholeOf p)
-unfolding editableOf editRules
-editable-as p = after-whole p (missingRule p) Refused (Whole (messageOf p))
+module _ {A : Type 0} (p : List ℕ) (refuse : Verdict → A) (go : A) where
+  -- the rules in the order in which the code meets them
+  in-order : first (editRules p) refuse go ≡ first (outerRules p ++ (fragmentRule p ++ (messageRules p ++ missingRule p))) refuse go
+  unfolding editRules wholeRules
+  in-order = simp append-assoc
 
-pub refused-whole : (p : List ℕ) (v : Verdict) → Refused v ≡ wholeOf p → Refused v ≡ editableOf p
-refused-whole p v e = simp (editable-as, sym e)
+  pub refused-outer : (v : Verdict) → frame.Refused v ≡ outerOf p → refuse v ≡ first (editRules p) refuse go
+  refused-outer v e = sym (in-order ∙ simp (after-outer, sym e))
 
-module _ (p : List ℕ) (m : Message) (e : Whole m ≡ wholeOf p) where
-  pub missing6 : four p ≡ false → silentOf p ≡ true → Refused Missing ≡ editableOf p
-  missing6 f s = simp (editable-as, sym e, s, f)
+  module _ (h : Header) (e : frame.Ip h ≡ outerOf p) where
+    split : h .fragment ≡ fragmentOf p
+    split = ap (λ (k : Header). k .fragment) (headed p h e .is)
 
-  pub summed6 : silentOf p ≡ false → Whole m ≡ editableOf p
-  summed6 s = rw (held-whole p m e .holds .is) (sym (simp (editable-as, sym e, s)))
+    pub refused-fragment : h .fragment ≡ true → refuse Fragment ≡ first (editRules p) refuse go
+    refused-fragment f = sym (in-order ∙ simp (after-outer, sym e, sym split ∙ f))
 
-  pub whole-four : four p ≡ true → Whole m ≡ editableOf p
-  whole-four f =
-      by-cases (silentOf p)
-      (λ s. rw (held-whole p m e .holds .is) (sym (simp (editable-as, sym e, s, f))))
-      (λ s. summed6 s)
+    module _ (f : h .fragment ≡ false) where
+      pub refused-inner : (v : Verdict) → part.Refused v ≡ innerOf p → refuse v ≡ first (editRules p) refuse go
+      refused-inner v i = sym (in-order ∙ simp (after-outer, sym e, sym split ∙ f, after-inner, sym i))
 
--- ---- rules after them
-pub by-editable : {A : Type 0} (p : List ℕ) (rest : List Rule) (refuse : Verdict → A) (go : A)
-    → first (editRules p ++ rest) refuse go ≡ parted refuse (first rest refuse go) (editableOf p)
-unfolding editableOf
-by-editable p rest r g =
-    first-append (editRules p) rest r g ∙ sym (first-map (parted r (first rest r g)) (editRules p) Refused (Whole (messageOf p)))
+      pub handed-on : (m : Message) → part.Whole m ≡ innerOf p → first (missingRule p) refuse go ≡ first (editRules p) refuse go
+      handed-on m i = sym (in-order ∙ simp (after-outer, sym e, sym split ∙ f, after-inner, sym i))
 
--- ---- what an answer that is no refusal tells
-pub held-editable : (p : List ℕ) (m : Message) → Whole m ≡ editableOf p → Holds p m
-unfolding editableOf editRules wholeRules
-held-editable p m e =
-    let q = first-is (editRules p) Refused (Whole (messageOf p)) (Whole m) (λ v n. let z : _≡_ {A = ℕ} 0 1 = cc in omega arith) e in
-    let w = clear-both (wholeRules p) (missingRule p) (q .1) in
-    let d = clear-both (outerRules p) (fragmentRule p ++ messageRules p) (w .0) in
-    record { is = cc (q .0); outer = d .0; inner = d .1 .1 }
+-- ---- the family of a message at hand
+module _ {p : List ℕ} {m : Message} (h : Holds p m) where
+  family : m .family ≡ familyOf p
+  family = ap (λ (k : Message). k .family) (h .is)
+
+  pub held-four : m .family ≡ Four → four p ≡ true
+  held-four e = is-four p (sym family ∙ e)
+
+  pub held-six : m .family ≡ Six → four p ≡ false
+  held-six e = is-six p (sym family ∙ e)

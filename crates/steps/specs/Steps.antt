@@ -1,26 +1,23 @@
 -- The steps that the code of the edits takes. A reader need not believe these: the edits' contracts cite `kept`.
-use Prim.Native.Nat.{ℕ}
+use Prim.Native.Nat.{ℕ, _+_, _*_, _%_, _≤_}
+use mathlib.Core.Path.{_≡_}
 use mathlib.Core.List.{List}
 use mathlib.Core.Bool.{Bool}
 use Rattle.verdicts.specs.Choice.{if_then_else_}
-use Rattle.verdicts.specs.Rules.{first}
+use Rattle.sums.specs.Fold.{fold, swap}
+use Rattle.sums.specs.Update.{updated}
 use Rattle.wire.specs.Bytes.{putWord}
-use Rattle.wire.specs.Outer.{headerField}
-use Rattle.wire.specs.Inner.{messageOf}
-use Rattle.wire.specs.declared.Family.{Family}
-use Rattle.wire.specs.declared.Family.the-variants.{Four, Six}
-use Rattle.wire.specs.declared.Part.{Part}
-use Rattle.wire.specs.declared.Part.the-variants.{Refused, Whole}
-use Rattle.kept.specs.Edits.{editRules}
+use Rattle.mend.specs.Fresh.{sent}
 
--- the message of a packet that no common rule of the edits refuses
-unfoldable pub editableOf : List ℕ → Part
-editableOf p = first (editRules p) Refused (Whole (messageOf p))
+-- d is what the total n has more than the total m, both read low byte first, which is to take them 256 times
+abbrev pub Change : ℕ → ℕ → ℕ → Type 0
+Change d m n = (d + 256 * m) % 65535 ≡ (256 * n) % 65535
 
--- ---- the fields written, with the new ones in hand
-abbrev pub headerPut : Family → List ℕ → ℕ → List ℕ
-headerPut Four q w = putWord q headerField w
-headerPut Six q w = q
+-- the field hc after any change that d is, w low byte first
+pub record Renewed (udp : Bool) (hc d w : ℕ) : Type 0 where
+  pub small : w ≤ 65535
+  pub is : (m n : ℕ) → Change d m n → swap w ≡ sent udp (updated hc (fold m) (fold n))
 
+-- q with the word w, low byte first, in the message's field, unless that is quiet
 abbrev pub messagePut : Bool → ℕ → List ℕ → ℕ → List ℕ
-messagePut quiet f q w = if quiet then q else putWord q f w
+messagePut quiet f q w = if quiet then q else putWord q f (swap w)

@@ -1,35 +1,30 @@
-// What the edits have in common: which packets they take, whether ICMP is blank, and fields updated and written.
+// What the edits have in common: the packets that none of them takes, whether ICMP is blank, and fields updated and
+// written.
 mod blank;
 mod update;
 
 pub use blank::blanks;
-pub use update::put_header;
+pub use update::aligned;
+pub use update::change;
 pub use update::put_message;
 pub use update::renewed;
-use verdicts::Verdict;
+pub use update::total_4;
+pub use update::total_16;
 use wire::Family;
-use wire::Part;
+use wire::Message;
 ghost use mathlib.Core.Path.{_≡_};
-ghost use Rattle.steps.specs.Steps.{editableOf};
+ghost use mathlib.Core.Bool.{not, _&&_};
+ghost use Rattle.wire.specs.Outer.{four};
+ghost use Rattle.wire.specs.Inner.{silentOf, Holds};
 
-// The message of a packet that may be edited, or the first refusal: 2, 3, 4, 6, 7, 8.
-pub fn editable(packet: &[u8]) -> Part
-    ensures { λ r. ⌜ r ≡ editableOf (now (packet .entry)) ⌝ }
+// Whether a message is UDP's over IPv6 with the field 0000, which must not be.
+pub fn missing(packet: &[u8], m: Message) -> bool
+    requires { ⌜ Holds (now packet) m ⌝ }
+    ensures { λ r. ⌜ r ≡ (silentOf (now (packet .entry)) && not (four (now (packet .entry)))) ⌝ }
 {
-    let part = wire::whole(packet);
-    match part {
-        Part::Refused(v) => Part::Refused(v),
-        Part::Whole(m) => {
-            let family = m.family;
-            match family {
-                Family::Four => Part::Whole(m),
-                Family::Six => {
-                    if wire::silent(packet, m) {
-                        return Part::Refused(Verdict::Missing);
-                    }
-                    Part::Whole(m)
-                }
-            }
-        }
+    let family = m.family;
+    match family {
+        Family::Four => false,
+        Family::Six => wire::silent(packet, m),
     }
 }

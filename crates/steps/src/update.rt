@@ -1,45 +1,79 @@
-// Fields updated and written.
-use sums::Field;
-use sums::Fold;
-use wire::Family;
+// Fields updated and written. Numbers are read and written low byte first: modulo 65535 that is to take each 256 times,
+// so what is added up and taken away stays right, and nothing is exchanged on the way.
 ghost use mathlib.Core.Path.{_≡_};
-ghost use Prim.Native.Nat.{_+_, _<_};
+ghost use mathlib.Core.Bool.{true};
+ghost use Prim.Native.Nat.{_+_, _%_, _<_, _≤_};
 ghost use lib.ListN.{length};
-ghost use Rattle.sums.specs.Update.{updated};
+ghost use Rattle.sums.specs.Total.{weigh};
+ghost use Rattle.sums.specs.Fold.{fold};
+ghost use Rattle.sums.specs.Partials.{swapIf};
 ghost use Rattle.wire.specs.Bytes.{wordAt};
-ghost use Rattle.mend.specs.Fresh.{sent};
-ghost use Rattle.steps.specs.Steps.{headerPut, messagePut};
+ghost use Rattle.steps.specs.Steps.{Renewed, messagePut};
 
-// The field at a place after the old bytes' fold gave way to the new bytes'. UDP's that comes out 0000 becomes FFFF.
-pub fn renewed(packet: &[u8], at: usize, old: Fold, new: Fold, udp: bool) -> u16
-    requires { ⌜ at + 1 < length (now packet) ⌝ }
-    ensures { λ r. ⌜ r ≡ sent udp (updated (wordAt (now (packet .entry)) at) (old .0) (new .0)) ⌝ }
+// What the new bytes' total has more than the old bytes', modulo 65535: one number for every field that covers them.
+pub fn change(old: u64, new: u64) -> u64
+    ensures { λ r. ⌜ (r ≤ 65534) × ((r + old) % 65535 ≡ new % 65535) ⌝ }
 {
-    let field = Field(wire::word(packet, at));
-    let after = mend::sent(udp, sums::update(field, old, new));
-    after.0
+    sums::carry(u64::MAX - old, new) % 65535
 }
 
-// Writes the IPv4 header's field; IPv6 has none.
-pub fn put_header(packet: &mut [u8], family: Family, w: u16)
-    requires { ⌜ 11 < length (now packet) ⌝ }
-    ensures { λ _. ⌜ now (packet .exit) ≡ headerPut family (now (packet .entry)) w ⌝ }
+// A change of bytes that begin at an odd position, or at an even one.
+pub fn aligned(odd: bool, d: u64) -> u64
+    requires { ⌜ d ≤ 65534 ⌝ }
+    ensures { λ r. ⌜ (r ≡ swapIf odd d) × (r ≤ 65534) ⌝ }
 {
-    match family {
-        Family::Four => {
-            wire::put_word(packet, wire::HEADER_FIELD, w);
-        }
-        Family::Six => {}
+    if odd { d % 256 * 256 + d / 256 } else { d }
+}
+
+// The totals of addresses, in straight lines.
+pub fn total_4(b: &[u8]) -> u64
+    requires { ⌜ length (now b) ≡ 4 ⌝ }
+    ensures { λ r. ⌜ fold r ≡ fold (0 + weigh true (now (b .entry))) ⌝ }
+{
+    sums::le4(b, 0)
+}
+
+pub fn total_16(b: &[u8]) -> u64
+    requires { ⌜ length (now b) ≡ 16 ⌝ }
+    ensures { λ r. ⌜ fold r ≡ fold (0 + weigh true (now (b .entry))) ⌝ }
+{
+    sums::carry(sums::le8(b, 0), sums::le8(b, 8))
+}
+
+// The field at a place after a change, which it goes down by, being a complement. 0000 and FFFF are alike: UDP has the
+// one and any other the other (RFC 1624's equation 3, but 0000 where that answers FFFF).
+pub fn renewed(packet: &[u8], at: usize, d: u64, udp: bool) -> u64
+    requires { ⌜ (at + 1 < length (now packet)) × (d ≤ 65534) ⌝ }
+    ensures { λ r. ⌜ Renewed udp (wordAt (now (packet .entry)) at) d r ⌝ }
+{
+    let w = less(sums::le2(packet, at), d);
+    if udp {
+        return w;
     }
+    if w == 65535 {
+        return 0;
+    }
+    w
+}
+
+// f - d modulo 65535, and 65535 for 0.
+fn less(f: u64, d: u64) -> u64
+    requires { ⌜ (f ≤ 65535) × (d ≤ 65534) ⌝ }
+    ensures { λ r. ⌜ (1 ≤ r) × (r ≤ 65535) × ((r + d) % 65535 ≡ f % 65535) ⌝ }
+{
+    if f > d {
+        return f - d;
+    }
+    f + 65535 - d
 }
 
 // Writes the message's field, unless it is UDP's 0000, which stays.
-pub fn put_message(packet: &mut [u8], at: usize, quiet: bool, w: u16)
-    requires { ⌜ at + 1 < length (now packet) ⌝ }
+pub fn put_message(packet: &mut [u8], at: usize, quiet: bool, w: u64)
+    requires { ⌜ (at + 1 < length (now packet)) × (w ≤ 65535) ⌝ }
     ensures { λ _. ⌜ now (packet .exit) ≡ messagePut quiet at (now (packet .entry)) w ⌝ }
 {
     if quiet {
         return;
     }
-    wire::put_word(packet, at, w);
+    wire::put_low(packet, at, w);
 }

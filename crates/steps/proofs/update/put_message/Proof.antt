@@ -11,4 +11,4 @@ put-message-spec =
     (λ c. search needs)
     (λ c κs. search needs)
     (λ c. search needs)
-    (λ c. c .before .before .put-word .ensures ∙ sym (simp (c .before .before .before .before .if1 .left))))
+    (λ c. c .before .before .put-low .ensures ∙ sym (simp (c .before .before .before .before .if1 .left))))
