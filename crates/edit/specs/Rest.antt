@@ -1,12 +1,18 @@
--- What each edit answers where no common rule refuses. A reader need not believe these: the contracts cite `kept`.
+-- What each edit answers where the packet's shape is right. A reader need not believe these: the contracts cite `kept`.
 use Prim.Native.Nat.{ℕ, _+_}
 use mathlib.Core.List.{List}
 use Rattle.verdicts.specs.Rules.{first}
 use Rattle.verdicts.specs.declared.Verdict.{Verdict}
 use Rattle.verdicts.specs.declared.Verdict.the-variants.{Good}
 use Rattle.wire.specs.Inner.{bodyOf}
+use Rattle.judge.specs.Judge.{missingRule}
 use Rattle.kept.specs.Edits.{lifetimeRules, lifetimeLeft, sideAt, addressRules, addressLeft, stretchRules, stretchLeft}
 
+-- what is answered where UDP's sum isn't missing
+abbrev pub unlessMissing : List ℕ → Verdict × List ℕ → Verdict × List ℕ
+unlessMissing p x = first (missingRule p) (λ v. (v, p)) x
+
+-- and by each edit's own rules
 abbrev pub lifetimeIn : List ℕ → Verdict × List ℕ
 lifetimeIn p = first (lifetimeRules p) (λ v. (v, p)) (Good, lifetimeLeft p)
 

@@ -1,47 +1,62 @@
--- The common order of the edits: its answers, with whatever is answered where no common rule refuses.
+-- The common order of the edits: its answers, and how an edit's own rules go on after it.
 use Prim.Native.Nat.{ℕ}
 use mathlib.Core.Path.{_≡_, sym, ap, _∙_}
 use mathlib.Core.Bool.{true, false}
 use mathlib.Core.List.{List, _++_, append-assoc}
-use Rattle.verdicts.specs.Rules.{first}
+use Rattle.verdicts.specs.Rules.{Rule, first}
 use Rattle.verdicts.specs.declared.Verdict.{Verdict}
 use Rattle.verdicts.specs.declared.Verdict.the-variants.{Fragment}
-use Rattle.wire.specs.Outer.{familyOf, four, fragmentOf, fragmentRule, outerOf, outerRules}
-use Rattle.wire.specs.Inner.{Holds, innerOf, messageRules, wholeRules}
+use Rattle.verdicts.proofs.Rules.{first-append}
+use Rattle.wire.specs.Outer.{familyOf, four, fragmentOf, fragmentRule, outerOf, outerRules, protocolOf}
+use Rattle.wire.specs.Inner.{Holds, bodyOf, endOf, fieldAt, innerOf, messageRules, startOf, wholeRules}
 use Rattle.wire.specs.declared.Family.the-variants.{Four, Six}
 use Rattle.wire.specs.declared.Header.{Header}
 use Rattle.wire.specs.declared.Frame.the-variants as frame
 use Rattle.wire.specs.declared.Message.{Message}
 use Rattle.wire.specs.declared.Part.the-variants as part
-use Rattle.wire.proofs.Held.{after-outer, after-inner, headed, is-four, is-six}
+use Rattle.wire.proofs.Facts.{Facts}
+use Rattle.wire.proofs.Held.{after-outer, after-inner, headed, held-facts, is-four, is-six}
 use Rattle.judge.specs.Judge.{missingRule}
 use Rattle.kept.specs.Edits.{editRules}
 
-module _ {A : Type 0} (p : List ℕ) (refuse : Verdict → A) (go : A) where
+module _ {A : Type 0} (p : List ℕ) (rest : List Rule) (refuse : Verdict → A) (go : A) where
   -- the rules in the order in which the code meets them
-  in-order : first (editRules p) refuse go ≡ first (outerRules p ++ (fragmentRule p ++ (messageRules p ++ missingRule p))) refuse go
+  in-order : first (editRules p ++ rest) refuse go ≡ first (outerRules p ++ (fragmentRule p ++ (messageRules p ++ (missingRule p ++ rest)))) refuse go
   unfolding editRules wholeRules
   in-order = simp append-assoc
 
-  pub refused-outer : (v : Verdict) → frame.Refused v ≡ outerOf p → refuse v ≡ first (editRules p) refuse go
+  pub refused-outer : (v : Verdict) → frame.Refused v ≡ outerOf p → refuse v ≡ first (editRules p ++ rest) refuse go
   refused-outer v e = sym (in-order ∙ simp (after-outer, sym e))
 
   module _ (h : Header) (e : frame.Ip h ≡ outerOf p) where
     split : h .fragment ≡ fragmentOf p
     split = ap (λ (k : Header). k .fragment) (headed p h e .is)
 
-    pub refused-fragment : h .fragment ≡ true → refuse Fragment ≡ first (editRules p) refuse go
+    pub refused-fragment : h .fragment ≡ true → refuse Fragment ≡ first (editRules p ++ rest) refuse go
     refused-fragment f = sym (in-order ∙ simp (after-outer, sym e, sym split ∙ f))
 
     module _ (f : h .fragment ≡ false) where
-      pub refused-inner : (v : Verdict) → part.Refused v ≡ innerOf p → refuse v ≡ first (editRules p) refuse go
+      pub refused-inner : (v : Verdict) → part.Refused v ≡ innerOf p → refuse v ≡ first (editRules p ++ rest) refuse go
       refused-inner v i = sym (in-order ∙ simp (after-outer, sym e, sym split ∙ f, after-inner, sym i))
 
-      pub handed-on : (m : Message) → part.Whole m ≡ innerOf p → first (missingRule p) refuse go ≡ first (editRules p) refuse go
-      handed-on m i = sym (in-order ∙ simp (after-outer, sym e, sym split ∙ f, after-inner, sym i))
+      pub handed-on : (m : Message) → part.Whole m ≡ innerOf p → first (missingRule p) refuse (first rest refuse go) ≡ first (editRules p ++ rest) refuse go
+      handed-on m i = sym (in-order ∙ simp (after-outer, sym e, sym split ∙ f, after-inner, sym i) (first-append (missingRule p) rest refuse go))
 
--- ---- the family of a message at hand
+-- ---- the places of a message at hand, as omega reads them, and its family
+pub record Known (p : List ℕ) (m : Message) : Type 0 where
+  pub facts : Facts p
+  pub start : m .start ≡ startOf p
+  pub end : m .end ≡ endOf p
+  pub protocol : m .protocol ≡ protocolOf p
+  pub field : m .field ≡ fieldAt p
+  pub body : m .body ≡ bodyOf p
+
 module _ {p : List ℕ} {m : Message} (h : Holds p m) where
+  pub known : Known p m
+  known =
+      let e = h .is in
+      record { facts = held-facts h; start = rw e; end = rw e; protocol = rw e; field = rw e; body = rw e }
+
   family : m .family ≡ familyOf p
   family = ap (λ (k : Message). k .family) (h .is)
 

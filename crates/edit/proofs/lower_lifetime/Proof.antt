@@ -1,67 +1,44 @@
--- A refusal, or what the family's function leaves.
-use mathlib.Core.Path.{_≡_, _∙_, sym, ap}
-use Prim.Native.Nat.{ℕ}
-use native.Mathlib.Omega.{arith}
-use mathlib.Core.List.{List}
+-- A refusal of the packet's shape, or what `lower` leaves.
+use mathlib.Core.Path.{_≡_, _∙_, sym}
 use denote.Ref.{now}
-use Rattle.wire.specs.Outer.{familyOf}
-use Rattle.wire.specs.Inner.{Holds}
-use Rattle.wire.specs.declared.Message.{Message}
-use Rattle.wire.specs.declared.Part.the-variants.{Whole}
-use Rattle.wire.proofs.Held.{held-facts, is-four, is-six}
+use Rattle.wire.specs.Outer.{outerOf}
+use Rattle.wire.specs.declared.Frame.the-variants.{Ip}
+use Rattle.wire.proofs.Held.{held-inner}
 use Rattle.kept.specs.Edits.{lifetimeOf}
-use Rattle.steps.specs.Steps.{editableOf}
-use Rattle.steps.proofs.Common.{by-editable, held-editable}
+use Rattle.steps.proofs.Common.{refused-outer, refused-fragment, refused-inner, handed-on}
 use borrow.Author.Needs.{needs}
 use Rattle.edit.proofs.lower_lifetime.Statement.{statement}
 use Rattle.edit.proofs.lower_lifetime.Tie as tie
 
-abbrev P : tie.After-part2 → List ℕ
-P c = now (c .before .before .before .before .before .args .packet)
-
-abbrev M : tie.After-part2 → Message
-M c = c .part2 .given .0 .0
-
-whole : (c : tie.After-part2) → Whole (M c) ≡ editableOf (P c)
-whole c = sym (c .part2 .given .1) ∙ c .before .before .editable .ensures
-
-holds : (c : tie.After-part2) → Holds (P c) (M c)
-holds c = held-editable (P c) (M c) (whole c)
-
-family : (c : tie.After-part2) → M c .family ≡ familyOf (P c)
-family c = ap (λ (m : Message). m .family) (holds c .is)
-
-lower4-requires : tie.Need-lower4-requires
-lower4-requires c κs =
-    let d = c .before .before .before .before in
-    let f = held-facts (holds d) in
-    (omega arith, is-four (P d) (sym (family d) ∙ c .before .enum-told .given .1))
-
-lower6-requires : tie.Need-lower6-requires
-lower6-requires c κs =
-    let d = c .before .before .before .before in
-    let s = is-six (P d) (sym (family d) ∙ c .before .enum-told2 .given .1) in
-    let f = held-facts (holds d) in
-    let x = f .outer .six s in
-    (omega arith, s)
+ip : (c : tie.After-frame2) → Ip (c .frame2 .given .0 .0) ≡ outerOf (now (c .before .before .before .before .before .args .packet))
+ip c = sym (c .frame2 .given .1) ∙ c .before .before .outer .ensures
 
 returns : tie.Need-returns
 unfolding lifetimeOf
-returns c = simp (by-editable, sym (sym (c .before .part .given .1) ∙ c .before .before .before .editable .ensures))
+returns c = refused-fragment _ _ _ _ _ (ip (c .before .before)) (c .if1 .taken)
+
+lower-requires : tie.Need-lower-requires
+lower-requires c κs =
+    let i = c .before .before .before .before in
+    held-inner _ _ _ (ip (i .before .before .before .before)) (sym (c .before .before .part2 .given .1) ∙ i .inner .ensures)
 
 returns-2 : tie.Need-returns-2
 unfolding lifetimeOf
-returns-2 c =
-    let l = c .before .before in
-    let d = l .before .before .before .before .before in
-    l .lower4 .ensures ∙ sym (simp (by-editable, sym (whole d)))
+returns-2 c = refused-outer _ _ _ _ _ (sym (c .before .frame .given .1) ∙ c .before .before .before .outer .ensures)
 
 returns-3 : tie.Need-returns-3
 unfolding lifetimeOf
 returns-3 c =
+    let i = c .before .before .before in
+    refused-inner _ _ _ _ _ (ip (i .before .before .before .before)) (i .before .before .if1 .left) _ (sym (c .before .part .given .1) ∙ i .inner .ensures)
+
+returns-4 : tie.Need-returns-4
+unfolding lifetimeOf
+returns-4 c =
     let l = c .before .before in
-    let d = l .before .before .before .before .before in
-    l .lower6 .ensures ∙ sym (simp (by-editable, sym (whole d)))
+    let i = l .before .before .before .before .before in
+    l .lower .ensures
+    ∙ handed-on _ _ _ _ _ (ip (i .before .before .before .before)) (i .before .before .if1 .left) _ (sym (l .before .before .before .part2 .given .1) ∙ i .inner .ensures)
 
 pub lower-lifetime-spec : {M : Type 1} → statement M
 lower-lifetime-spec =
@@ -71,12 +48,14 @@ lower-lifetime-spec =
     (λ c. search needs)
     (λ c. search needs)
     (λ c. search needs)
-    lower4-requires
-    (λ c. search needs)
-    lower6-requires
-    (λ c. search needs)
     returns
+    (λ c κs. ip (c .before .before .before))
+    (λ c. search needs)
+    (λ c. search needs)
+    lower-requires
     (λ c. search needs)
     returns-2
     (λ c. search needs)
-    returns-3)
+    returns-3
+    (λ c. search needs)
+    returns-4)

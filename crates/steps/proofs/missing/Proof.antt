@@ -1,22 +1,14 @@
 -- Of IPv4 nothing is missing; of IPv6 what is silent.
-use mathlib.Core.Path.{sym, ap, _∙_}
+use mathlib.Core.Path.{sym, _∙_}
 use native.Mathlib.Omega.{arith}
 use denote.Ref.{now}
 use Rattle.verdicts.proofs.Tests.{by-cases}
 use Rattle.wire.specs.Inner.{silentOf}
-use Rattle.wire.specs.declared.Message.{Message}
-use Rattle.wire.proofs.Held.{held-facts, held-silent}
-use Rattle.steps.proofs.Common.{held-four, held-six}
+use Rattle.wire.proofs.Held.{held-silent}
+use Rattle.steps.proofs.Common.{known, held-four, held-six}
 use borrow.Author.Needs.{needs}
 use Rattle.steps.proofs.missing.Statement.{statement}
 use Rattle.steps.proofs.missing.Tie as tie
-
-silent-requires : tie.Need-silent-requires
-silent-requires c κs =
-    let h = c .before .before .before .pre in
-    let f = held-facts h in
-    let e = ap (λ (m : Message). m .field) (h .is) in
-    omega arith
 
 returns : tie.Need-returns
 returns c =
@@ -33,4 +25,4 @@ returns-2 c =
 
 pub missing-spec : {M : Type 1} → statement M
 missing-spec =
-    tie.close (tie.spec (λ c. search needs) (λ c. search needs) silent-requires returns returns-2)
+    tie.close (tie.spec (λ c. search needs) (λ c. search needs) (λ c κs. let k = known (c .before .before .before .pre) in omega arith) returns returns-2)

@@ -11,10 +11,9 @@ use denote.Ref.{now}
 use Rattle.wire.specs.Bytes.{part, put}
 use Rattle.wire.specs.Outer.{protocolOf}
 use Rattle.wire.specs.Inner.{endOf, fieldAt, startOf}
-use Rattle.wire.proofs.Facts.{Facts}
-use Rattle.wire.proofs.Held.{held-facts}
 use Rattle.kept.specs.Edits.{allZero, blank}
 use Rattle.steps.proofs.AllZero.{blanks-made, new-decides}
+use Rattle.steps.proofs.Common.{Known, known}
 use borrow.Author.Needs.{needs}
 use Rattle.steps.proofs.blank.blanks.Statement.{statement}
 use Rattle.steps.proofs.blank.blanks.Tie as tie
@@ -22,17 +21,8 @@ use Rattle.steps.proofs.blank.blanks.Tie as tie
 abbrev P : tie.Start → List ℕ
 P c = now (c .args .packet)
 
-record Known (c : tie.Start) : Type 0 where
-  facts : Facts (P c)
-  start : c .args .m .start ≡ startOf (P c)
-  end : c .args .m .end ≡ endOf (P c)
-  field : c .args .m .field ≡ fieldAt (P c)
-  protocol : c .args .m .protocol ≡ protocolOf (P c)
-
-known : (c : tie.Start) → Known c
-known c =
-    let e = c .pre .0 .is in
-    record { facts = held-facts (c .pre .0); start = rw e; end = rw e; field = rw e; protocol = rw e }
+places : (c : tie.Start) → Known (P c) (c .args .m)
+places c = known (c .pre .0)
 
 -- the part from s to e of the packet is all zeros
 abbrev clean : tie.Start → ℕ → ℕ → Bool
@@ -52,19 +42,19 @@ abbrev entry4 : tie.Else4 → tie.Start
 entry4 c = entry3 (c .before .before .before)
 
 icmp : (c : tie.Else1) → protocolOf (P (entry1 c)) ≡ 1
-icmp c = sym (known (entry1 c) .protocol) ∙ c .if1 .left
+icmp c = sym (places (entry1 c) .protocol) ∙ c .if1 .left
 
 first-is : (c : tie.After-zeros) → let a = entry1 (c .before .before) in c .zeros .result ≡ clean a (startOf (P a)) (fieldAt (P a))
 first-is c =
     let a = entry1 (c .before .before) in
-    let k = known a in
+    let k = places a in
     c .zeros .ensures ∙ ap₂ (clean a) (k .start) (k .field)
 
 middle-is : (c : tie.After-zeros2) → let a = entry2 (c .before .before) in c .zeros2 .result ≡ clean a (fieldAt (P a) + 2) (a .args .at)
-middle-is c = let a = entry2 (c .before .before) in c .zeros2 .ensures ∙ ap (λ (f : ℕ). clean a (f + 2) (a .args .at)) (known a .field)
+middle-is c = let a = entry2 (c .before .before) in c .zeros2 .ensures ∙ ap (λ (f : ℕ). clean a (f + 2) (a .args .at)) (places a .field)
 
 last-is : (c : tie.After-zeros3) → let a = entry3 (c .before .before) in c .zeros3 .result ≡ clean a (a .args .at + length (now (a .args .new))) (endOf (P a))
-last-is c = let a = entry3 (c .before .before) in c .zeros3 .ensures ∙ ap (clean a _) (known a .end)
+last-is c = let a = entry3 (c .before .before) in c .zeros3 .ensures ∙ ap (clean a _) (places a .end)
 
 first-true : (c : tie.Else2) → let a = entry2 c in clean a (startOf (P a)) (fieldAt (P a)) ≡ true
 first-true c = sym (first-is (c .before)) ∙ not-false _ (c .if2 .left)
@@ -81,10 +71,10 @@ answer : (a : tie.Start) → protocolOf (P a) ≡ 1 → (b : Bool)
     && (clean a (a .args .at + length (now (a .args .new))) (endOf (P a))
     && (clean a (a .args .at) (a .args .at + length (now (a .args .new))) || allZero (now (a .args .new))))))
     → b ≡ (eqb (protocolOf (P a)) 1 && (blank (P a) (P a) || blank (P a) (put (P a) (a .args .at) (now (a .args .new)))))
-answer a = blanks-made (P a) (known a .facts) (a .args .at) (now (a .args .new)) (a .pre .1 .0) (a .pre .1 .1)
+answer a = blanks-made (P a) (places a .facts) (a .args .at) (now (a .args .new)) (a .pre .1 .0) (a .pre .1 .1)
 
 returns : tie.Need-returns
-returns c = let a = c .before .before .before .before in simp (ne-eqb (protocolOf (P a)) 1 (λ e. c .if1 .taken (known a .protocol ∙ e)))
+returns c = let a = c .before .before .before .before in simp (ne-eqb (protocolOf (P a)) 1 (λ e. c .if1 .taken (places a .protocol ∙ e)))
 
 returns-2 : tie.Need-returns-2
 returns-2 c =
@@ -122,26 +112,26 @@ blanks-spec =
     tie.close
     (tie.spec
     returns
-    (λ c. let a = entry1 c in let k = known a in let r = a .pre .1 in omega arith)
-    (λ c. let a = entry1 c in let k = known a in let r = a .pre .1 in omega arith)
-    (λ c. let a = entry1 c in let k = known a in let r = a .pre .1 in omega arith)
+    (λ c. let a = entry1 c in let k = places a in let r = a .pre .1 in omega arith)
+    (λ c. let a = entry1 c in let k = places a in let r = a .pre .1 in omega arith)
+    (λ c. let a = entry1 c in let k = places a in let r = a .pre .1 in omega arith)
     (λ c κs. search needs)
     returns-2
-    (λ c. let a = entry2 c in let k = known a in let r = a .pre .1 in omega arith)
-    (λ c. let a = entry2 c in let k = known a in let r = a .pre .1 in omega arith)
-    (λ c. let a = entry2 c in let k = known a in let r = a .pre .1 in omega arith)
-    (λ c. let a = entry2 c in let k = known a in let r = a .pre .1 in omega arith)
+    (λ c. let a = entry2 c in let k = places a in let r = a .pre .1 in omega arith)
+    (λ c. let a = entry2 c in let k = places a in let r = a .pre .1 in omega arith)
+    (λ c. let a = entry2 c in let k = places a in let r = a .pre .1 in omega arith)
+    (λ c. let a = entry2 c in let k = places a in let r = a .pre .1 in omega arith)
     (λ c κs. search needs)
     returns-3
-    (λ c. let a = entry3 c in let k = known a in let r = a .pre .1 in omega arith)
-    (λ c. let a = entry3 c in let k = known a in let r = a .pre .1 in omega arith)
-    (λ c. let a = entry3 c in let k = known a in let r = a .pre .1 in omega arith)
-    (λ c. let a = entry3 c in let k = known a in let r = a .pre .1 in omega arith)
+    (λ c. let a = entry3 c in let k = places a in let r = a .pre .1 in omega arith)
+    (λ c. let a = entry3 c in let k = places a in let r = a .pre .1 in omega arith)
+    (λ c. let a = entry3 c in let k = places a in let r = a .pre .1 in omega arith)
+    (λ c. let a = entry3 c in let k = places a in let r = a .pre .1 in omega arith)
     (λ c κs. search needs)
     returns-4
     (λ c. search needs)
     (λ c. search needs)
-    (λ c. let a = entry4 c in let k = known a in let r = a .pre .1 in omega arith)
+    (λ c. let a = entry4 c in let k = places a in let r = a .pre .1 in omega arith)
     (λ c κs. search needs)
     returns-5
     (λ c κs. search needs)

@@ -3,8 +3,8 @@ use native.Mathlib.Omega.{arith}
 use denote.Ref.{now}
 use Rattle.edit.proofs.Made.{spent6, lowered6}
 use borrow.Author.Needs.{needs}
-use Rattle.edit.proofs.lower6.Statement.{statement}
-use Rattle.edit.proofs.lower6.Tie as tie
+use Rattle.edit.proofs.lifetime.lower6.Statement.{statement}
+use Rattle.edit.proofs.lifetime.lower6.Tie as tie
 
 pub lower6-spec : {M : Type 1} → statement M
 lower6-spec =

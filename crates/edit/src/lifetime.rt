@@ -1,0 +1,55 @@
+// The lifetime lowered in a packet whose shape is right.
+use steps::missing;
+use steps::renewed;
+use verdicts::Verdict;
+use wire::Family;
+use wire::Message;
+ghost use mathlib.Core.Path.{_≡_};
+ghost use mathlib.Core.Bool.{true, false};
+ghost use Prim.Native.Nat.{_≤_};
+ghost use lib.ListN.{length};
+ghost use Rattle.wire.specs.Outer.{four};
+ghost use Rattle.wire.specs.Inner.{Holds};
+ghost use Rattle.edit.specs.Rest.{unlessMissing, lifetimeIn};
+
+pub fn lower(packet: &mut [u8], m: Message) -> Verdict
+    requires { ⌜ Holds (now packet) m ⌝ }
+    ensures { λ r. ⌜ (r, now (packet .exit)) ≡ unlessMissing (now (packet .entry)) (lifetimeIn (now (packet .entry))) ⌝ }
+{
+    if missing(packet, m) {
+        return Verdict::Missing;
+    }
+    let family = m.family;
+    match family {
+        Family::Four => lower4(packet),
+        Family::Six => lower6(packet),
+    }
+}
+
+// IPv4's, which the header's sum covers. It is the first byte of its word, so low byte first the change is one less.
+fn lower4(packet: &mut [u8]) -> Verdict
+    requires { ⌜ (20 ≤ length (now packet)) × (four (now packet) ≡ true) ⌝ }
+    ensures { λ r. ⌜ (r, now (packet .exit)) ≡ lifetimeIn (now (packet .entry)) ⌝ }
+{
+    let lifetime = packet[wire::LIFETIME_4];
+    if lifetime < 2 {
+        return Verdict::Spent;
+    }
+    let field = renewed(packet, wire::HEADER_FIELD, 65534, false);
+    packet[wire::LIFETIME_4] = lifetime - 1;
+    wire::put_low(packet, wire::HEADER_FIELD, field);
+    Verdict::Good
+}
+
+// IPv6's, which no sum covers.
+fn lower6(packet: &mut [u8]) -> Verdict
+    requires { ⌜ (40 ≤ length (now packet)) × (four (now packet) ≡ false) ⌝ }
+    ensures { λ r. ⌜ (r, now (packet .exit)) ≡ lifetimeIn (now (packet .entry)) ⌝ }
+{
+    let lifetime = packet[wire::LIFETIME_6];
+    if lifetime < 2 {
+        return Verdict::Spent;
+    }
+    packet[wire::LIFETIME_6] = lifetime - 1;
+    Verdict::Good
+}
