@@ -1,7 +1,7 @@
 -- Each answer of the address edit's own rules, and the bytes that it leaves.
 use Prim.Native.Nat.{ℕ, _+_, _-_, _*_, _%_, _<_, _≤_}
-use mathlib.Core.Path.{_≡_, refl, sym, ap, _∙_}
-use mathlib.Core.Bool.{Bool, true, false, _&&_}
+use mathlib.Core.Path.{_≡_, sym, ap, _∙_}
+use mathlib.Core.Bool.{Bool, true, false, not, true≢false, _&&_}
 use mathlib.Core.List.{List}
 use native.Mathlib.Omega.{arith}
 use lib.ListN.{length}
@@ -14,8 +14,11 @@ use Rattle.sums.specs.Total.{odd, weigh}
 use Rattle.sums.specs.Fold.{swap}
 use Rattle.wire.specs.Bytes.{wordAt, part, put, putWord}
 use Rattle.wire.specs.Outer.{four, addressSize, addressesAt, headerField}
-use Rattle.wire.specs.Inner.{Holds}
+use Rattle.wire.specs.Messages.{shapeRules}
+use Rattle.wire.specs.Table.{rowOf}
+use Rattle.wire.specs.Inner.{Holds, messageRules, pseudo, silentOf}
 use Rattle.wire.specs.declared.Message.{Message}
+use Rattle.wire.proofs.Held.{family6, held-facts, held-silent}
 use Rattle.kept.specs.Update.{headerAfter}
 use Rattle.kept.specs.Edits.{addressLeft, sideAt}
 use Rattle.steps.specs.Steps.{Change, Renewed, messagePut}
@@ -39,6 +42,16 @@ module _ (p : List ℕ) (side : ℕ) (new : List ℕ) where
       by-cases (eqb side 0)
       (λ t. sym (simp (t, eq-eqb (length new) (addressSize p) n)))
       (λ t. let z : ¬ (side ≡ 0) = eqb-false side 0 t in sym (simp (t, eq-eqb side 1 (omega arith), eq-eqb (length new) (addressSize p) n)))
+
+-- ---- IPv6: UDP's 0000 is missing, and only ICMP, which isn't in the table, has no pseudo-header
+pub summed6 : (p : List ℕ) → four p ≡ false → (silentOf p && not (four p)) ≡ false → silentOf p ≡ false
+summed6 p f e = by-cases (silentOf p) (λ t. absurd (true≢false (simp (t, f) at e))) (λ t. t)
+
+pseudo6 : {p : List ℕ} {m : Message} → Holds p m → four p ≡ false → m .pseudo ≡ true
+unfolding messageRules shapeRules rowOf
+pseudo6 {p} {m} h f =
+    ap (λ (x : Message). x .pseudo) (h .is)
+    ∙ by-cases (pseudo p) (λ t. t) (λ t. absurd (true≢false (rw (family6 p f, held-facts h .plain t) at (h .inner .0))))
 
 -- ---- a is the place of a side's address: even in the header and in the pseudo-header
 pub record Sided (p : List ℕ) (side a : ℕ) : Type 0 where
@@ -83,32 +96,44 @@ module _ (p : List ℕ) (side a d : ℕ) (new : List ℕ) (s : Sided p side a) (
   by-position : Change d (weigh (odd (a - addressesAt p)) (part p a (length new))) (weigh (odd (a - addressesAt p)) new)
   by-position = rw (s .within) k
 
-  pub header4 : four p ≡ true → (w : ℕ) → Renewed false (wordAt p headerField) d w → (q l : List ℕ)
-      → q ≡ put p a new → l ≡ putWord q headerField (swap w) → l ≡ headerAfter p a new (put p a new)
-  header4 f w r q l eq el =
-      el ∙ ap (λ (x : List ℕ). putWord x headerField (swap w)) eq
-      ∙ header-made p (a - addressesAt p) a d new by-position f (s .even ∙ sym (s .within)) w r (put p a new)
-
-  pub header6 : four p ≡ false → (q : List ℕ) → q ≡ put p a new → q ≡ headerAfter p a new (put p a new)
-  unfolding headerAfter
-  header6 f q e = e ∙ sym (simp f)
+  abbrev Answers : List ℕ → Type 0
+  Answers l = _≡_ {A = Verdict × List ℕ} (Good, l) (addressIn p side new)
 
   -- q has the address, and the header's field
   module _ {m : Message} (h : Holds p m) (q : List ℕ) (e : q ≡ headerAfter p a new (put p a new)) where
-    abbrev Answers : List ℕ → Type 0
-    Answers l = _≡_ {A = Verdict × List ℕ} (Good, l) (addressIn p side new)
-
     left : (l : List ℕ) → l ≡ addressLeft p a new → Answers l
     left l el = ap (λ (x : List ℕ). (Good, x)) (el ∙ ap (λ (x : ℕ). addressLeft p x new) (s .at)) ∙ side-set p side new (s .known) n
 
-    pub plain-set : m .pseudo ≡ false → Answers q
-    plain-set t = left q (e ∙ sym (simp (ap (λ (x : Message). x .pseudo) (sym (h .is)) ∙ t)))
+    plain : m .pseudo ≡ false → Answers q
+    plain t = left q (e ∙ sym (simp (ap (λ (x : Message). x .pseudo) (sym (h .is)) ∙ t)))
 
-    pub message-set : (v : ℕ) (quiet : Bool) → quiet ≡ (eqb (m .protocol) 17 && eqb (wordAt p (m .field)) 0)
+    with-message : (v : ℕ) (quiet : Bool) → quiet ≡ (eqb (m .protocol) 17 && eqb (wordAt p (m .field)) 0)
         → Renewed (eqb (m .protocol) 17) (wordAt p (m .field)) d v
         → (l : List ℕ) → l ≡ messagePut quiet (m .field) q v → m .pseudo ≡ true → Answers l
-    message-set v quiet eq r l el t =
+    with-message v quiet eq r l el t =
         left l
         (el ∙ ap (λ (x : List ℕ). messagePut quiet (m .field) x v) e
         ∙ message-made p (a - addressesAt p) a d new by-position h v quiet eq r (headerAfter p a new (put p a new))
         ∙ sym (simp (ap (λ (x : Message). x .pseudo) (sym (h .is)) ∙ t)))
+
+  -- w is the header's new field, and v the message's
+  module _ (f : four p ≡ true) {m : Message} (h : Holds p m) (w : ℕ) (r : Renewed false (wordAt p headerField) d w)
+      (q l : List ℕ) (eq : q ≡ put p a new) (el : l ≡ putWord q headerField (swap w)) where
+    header-left : l ≡ headerAfter p a new (put p a new)
+    header-left =
+        el ∙ ap (λ (x : List ℕ). putWord x headerField (swap w)) eq
+        ∙ header-made p (a - addressesAt p) a d new by-position f (s .even ∙ sym (s .within)) w r (put p a new)
+
+    pub plain4 : m .pseudo ≡ false → Answers l
+    plain4 = plain h l header-left
+
+    pub message4 : (v : ℕ) (quiet : Bool) → quiet ≡ (eqb (m .protocol) 17 && eqb (wordAt p (m .field)) 0)
+        → Renewed (eqb (m .protocol) 17) (wordAt p (m .field)) d v
+        → (x : List ℕ) → x ≡ messagePut quiet (m .field) l v → m .pseudo ≡ true → Answers x
+    message4 = with-message h l header-left
+
+  pub message6 : four p ≡ false → silentOf p ≡ false → {m : Message} → Holds p m
+      → (v : ℕ) → Renewed (eqb (m .protocol) 17) (wordAt p (m .field)) d v
+      → (q l : List ℕ) → q ≡ put p a new → l ≡ putWord q (m .field) (swap v) → Answers l
+  unfolding headerAfter
+  message6 f s h v r q l eq el = with-message h q (eq ∙ sym (simp f)) v false (sym (held-silent h ∙ s)) r l el (pseudo6 h f)

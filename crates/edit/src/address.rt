@@ -13,7 +13,7 @@ ghost use mathlib.Core.Path.{_≡_};
 ghost use mathlib.Core.Bool.{true, false};
 ghost use Prim.Native.Nat.{_≤_};
 ghost use Rattle.wire.specs.Outer.{four};
-ghost use Rattle.wire.specs.Inner.{Holds};
+ghost use Rattle.wire.specs.Inner.{silentOf, Holds};
 ghost use Rattle.edit.specs.Rest.{unlessMissing, addressIn};
 
 pub fn set_side(packet: &mut [u8], m: Message, side: u32, address: &[u8]) -> Verdict
@@ -55,10 +55,10 @@ fn set4(packet: &mut [u8], m: Message, side: u32, address: &[u8]) -> Verdict
     Verdict::Good
 }
 
-// IPv6 has no header field.
+// IPv6 has no header field, and every message a pseudo-header. UDP's 0000 was refused.
 fn set6(packet: &mut [u8], m: Message, side: u32, address: &[u8]) -> Verdict
     requires { ⌜ Holds (now packet) m ⌝ }
-    requires { ⌜ (four (now packet) ≡ false) × (side ≤ 1) ⌝ }
+    requires { ⌜ (four (now packet) ≡ false) × (silentOf (now packet) ≡ false) × (side ≤ 1) ⌝ }
     ensures { λ r. ⌜ (r, now (packet .exit)) ≡ addressIn (now (packet .entry)) side (now (address .entry)) ⌝ }
 {
     if address.len() != wire::ADDRESS_6 {
@@ -68,10 +68,7 @@ fn set6(packet: &mut [u8], m: Message, side: u32, address: &[u8]) -> Verdict
     let end = at + wire::ADDRESS_6;
     let d = change(total_16(&packet[at..end]), total_16(address));
     let message = renewed(packet, m.field, d, m.protocol == wire::UDP);
-    let quiet = wire::silent(packet, m);
     wire::put_16(packet, at, address);
-    if m.pseudo {
-        put_message(packet, m.field, quiet, message);
-    }
+    wire::put_low(packet, m.field, message);
     Verdict::Good
 }

@@ -3,7 +3,7 @@ use mathlib.Core.Path.{_∙_, sym}
 use native.Mathlib.Omega.{arith}
 use denote.Ref.{now}
 use Rattle.steps.proofs.Common.{held-four, held-six}
-use Rattle.edit.proofs.Sides.{other-side}
+use Rattle.edit.proofs.Sides.{other-side, summed6}
 use borrow.Author.Needs.{needs}
 use Rattle.edit.proofs.address.set_side.Statement.{statement}
 use Rattle.edit.proofs.address.set_side.Tie as tie
@@ -22,8 +22,11 @@ set4-requires c κs =
 
 set6-requires : tie.Need-set6-requires
 set6-requires c κs =
-    let h = c .before .before .before .before .before .before .before .before .before .pre in
-    (h, (held-six h (c .before .enum-told2 .given .1), omega arith))
+    let d = c .before .before .before .before in
+    let a = d .before .before .before .before .before in
+    let h = a .pre in
+    let s = held-six h (c .before .enum-told2 .given .1) in
+    (h, (s, summed6 (now (a .args .packet)) s (sym (d .before .missing .ensures) ∙ d .if1 .left), omega arith))
 
 returns-3 : tie.Need-returns-3
 returns-3 c =

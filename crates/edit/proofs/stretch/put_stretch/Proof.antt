@@ -1,7 +1,5 @@
 -- The new bytes are written, and the field is that which the definition gives.
-use Prim.Native.Nat.{ℕ}
 use native.Mathlib.Omega.{arith}
-use mathlib.Core.List.{List}
 use denote.Ref.{now}
 use Rattle.steps.proofs.Common.{Known, known}
 use Rattle.edit.proofs.Made.{stretch-made}
