@@ -1,11 +1,15 @@
-/* Measures the library beside the ways of ways.c, on UDP packets. With CLANG defined, ways.c is there twice.
+/* Measures the library beside the ways of ways.c and same.c, on UDP packets.
  *
- *     bench calls     calls each once, between begin() and end(), and prints a line for each call:
- *                     what an emulator's trace is counted by
- *     bench lengths   the same for the lifetime edit alone, for lengths from 64 to 60,000
- *     bench times     measures nanoseconds for each call, and prints the table
+ *     bench calls        calls each once, between begin() and end(), and prints a line for each call:
+ *                        what an emulator's trace is counted by
+ *     bench lengths      the same for the library's lifetime edit alone, for lengths from 64 to 60,000
+ *     bench ten          the same for the ten calls whose counts the gate watches
+ *     bench nine         the same for the nine calls whose cycles are estimated
+ *     bench times        measures nanoseconds for each call, and prints a line for each
+ *     bench same COUNT   holds same.c to the library on so many random packets
  *
- * All ways are first seen to do the same. */
+ * A line is operation, packet, way and for times the nanoseconds, with bars between. All ways are first seen to do the
+ * same. With ONLY_OURS defined the library alone is there, and without CLANG the ways by clang aren't. */
 #define _POSIX_C_SOURCE 200809L
 #include <stdio.h>
 #include <stdlib.h>
@@ -15,11 +19,6 @@
 #include "ways.h"
 
 enum operation { FIELD, CHAIN, JUDGE, MEND, LOWER, ADDRESS, STRETCH, OPERATIONS };
-#ifdef CLANG
-enum { WAYS = 1 + 2 * C_WAYS };
-#else
-enum { WAYS = 1 + C_WAYS };
-#endif
 enum { LONGEST = 60000, PIECE = 63, BATCH = 64, ROUNDS = 3000 };
 
 static const char *const names[OPERATIONS] = {
@@ -29,9 +28,57 @@ static const struct way ours = {
     "ours", hifrostum_field, hifrostum_sum_chain, hifrostum_judge, hifrostum_mend, hifrostum_lower_lifetime,
     hifrostum_set_address, hifrostum_set_stretch,
 };
-static const struct way *ways[WAYS] = {&ours};
+
+/* All ways, and by which compiler; `same` is how many of the last are same.c's. */
+static struct {
+    const char *by;
+    const struct way *way;
+} ways[15] = {{"", &ours}};
+static size_t ways_len = 1, same;
+
+static void enter(const char *by, const struct way *way)
+{
+    ways[ways_len].by = by;
+    ways[ways_len++].way = way;
+}
+
+static void enter_all(void)
+{
+#ifndef ONLY_OURS
+    for (size_t i = 0; i < PLAIN_WAYS; i++)
+        enter("cc: ", plain_cc[i]);
+#ifdef CLANG
+    for (size_t i = 0; i < PLAIN_WAYS; i++)
+        enter("clang: ", plain_clang[i]);
+    enter("clang: ", &c_clang);
+    enter("clang: ", &adc_clang);
+    enter("clang: ", &sse2_clang);
+    same += 3;
+#endif
+    enter("cc: ", &c_cc);
+    enter("cc: ", &adc_cc);
+    enter("cc: ", &sse2_cc);
+    same += 3;
+#endif
+}
+
 static const size_t lengths[] = {40, 64, 128, 576, 1500}, lifetimes[] = {64, 128, 576, 1500, 9000, 60000};
 static const uint8_t new[16] = {0xFD, 0x12, 0x34, 0x56, 0x78, 0x9A, 0xBC, 0xDE, 0xF0, 1, 2, 3, 4, 5, 6, 7};
+
+/* Calls that are looked at more closely. A sum has no family. */
+struct row {
+    enum operation op;
+    int family;
+    size_t len;
+};
+static const struct row ten[] = {
+    {JUDGE, 4, 40}, {JUDGE, 4, 64}, {JUDGE, 4, 1500}, {JUDGE, 6, 64},   {MEND, 4, 64},
+    {MEND, 6, 64},  {LOWER, 4, 64}, {ADDRESS, 4, 64}, {STRETCH, 4, 64}, {FIELD, 4, 64},
+};
+static const struct row nine[] = {
+    {JUDGE, 4, 64}, {JUDGE, 4, 1500}, {JUDGE, 6, 64},   {MEND, 4, 64},    {MEND, 4, 1500},
+    {LOWER, 4, 64}, {ADDRESS, 4, 64}, {STRETCH, 4, 64}, {FIELD, 4, 1500},
+};
 
 /* The pieces of a chain: a header of 20 bytes, and the rest 63 bytes at a time, so that odd pieces begin at even and
  * at odd places. */
@@ -60,7 +107,7 @@ __attribute__((noinline)) void end(void)
 
 static int has(const struct way *way, enum operation op)
 {
-    return way->judge || op >= LOWER;
+    return op == FIELD ? way->field != 0 : op == CHAIN ? way->chain != 0 : op >= LOWER || way->judge;
 }
 
 /* One call. A chain answers its fold behind its length, or 1; a new address is a destination; a stretch is 8 bytes
@@ -136,97 +183,106 @@ static double now(void)
     return 1e9 * (double)t.tv_sec + (double)t.tv_nsec;
 }
 
-/* Prints what is measured. A sum has no family. */
-static void print_row(const char *before, enum operation op, int family, size_t len)
+/* Prints what is measured. */
+static void print_row(struct row r, size_t w)
 {
-    printf("%s%s | %s %zu", before, names[op], op <= CHAIN ? "bytes" : family == 4 ? "IPv4" : "IPv6", len);
+    printf("%s | %s %zu | %s%s", names[r.op], r.op <= CHAIN ? "bytes" : r.family == 4 ? "IPv4" : "IPv6", r.len,
+           ways[w].by, ways[w].way->name);
 }
 
-/* Prints a row of the table: the best of many batches for each way, all ways taking turns. Each batch begins with the
- * good packet, and none of its calls may be refused. */
-static void timed(enum operation op, int family, const uint8_t *packet, size_t len)
+/* The best of many batches for each way, all ways taking turns. Each batch begins with the good packet, and none of its
+ * calls may be refused. */
+static void timed(struct row r, const uint8_t *packet)
 {
     static uint8_t copy[LONGEST];
-    double best[WAYS] = {0};
+    double best[sizeof ways / sizeof *ways] = {0};
     for (int round = 0; round < ROUNDS; round++)
-        for (int w = 0; w < WAYS; w++) {
-            if (!has(ways[w], op))
+        for (size_t w = 0; w < ways_len; w++) {
+            if (!has(ways[w].way, r.op))
                 continue;
-            memcpy(copy, packet, len);
+            memcpy(copy, packet, r.len);
             unsigned answers = 0;
             double start = now();
             for (int i = 0; i < BATCH; i++)
-                answers |= call(ways[w], op, copy, len);
+                answers |= call(ways[w].way, r.op, copy, r.len);
             double each = (now() - start) / BATCH;
             if (best[w] == 0 || each < best[w])
                 best[w] = each;
-            if (op > CHAIN && answers != 0) {
-                fprintf(stderr, "bench: %s: %s refused a good packet\n", names[op], ways[w]->name);
+            if (r.op > CHAIN && answers != 0) {
+                fprintf(stderr, "bench: %s: %s refused a good packet\n", names[r.op], ways[w].way->name);
                 exit(1);
             }
         }
-    print_row("| ", op, family, len);
-    printf(" | %.1f |", best[0]);
-    for (int w = 1; w < WAYS; w++)
-        if (has(ways[w], op))
-            printf(" %.2f |", best[w] / best[0]);
-        else
-            printf(" |");
-    printf("\n");
+    for (size_t w = 0; w < ways_len; w++)
+        if (has(ways[w].way, r.op)) {
+            print_row(r, w);
+            printf(" | %.1f\n", best[w]);
+        }
 }
 
 /* Measures one operation on one packet, done in each way: by counted calls, or by the clock. */
-static void measure(int calls, enum operation op, int family, size_t len)
+static void measure(int calls, struct row r)
 {
     static uint8_t packet[LONGEST];
-    build(packet, family, len);
-    cut(len);
-    for (int w = 0; w < WAYS; w++) {
-        if (!has(ways[w], op))
+    build(packet, r.family, r.len);
+    cut(r.len);
+    for (size_t w = 0; w < ways_len; w++) {
+        if (!has(ways[w].way, r.op))
             continue;
-        compare(ways[w], op, packet, len);
+        compare(ways[w].way, r.op, packet, r.len);
         if (calls) {
-            counted(ways[w], op, packet, len);
-            print_row("", op, family, len);
-            printf(" | %d\n", w);
+            counted(ways[w].way, r.op, packet, r.len);
+            print_row(r, w);
+            printf("\n");
         }
     }
     if (!calls)
-        timed(op, family, packet, len);
+        timed(r, packet);
 }
 
-/* Counts the lifetime edit on packets of many lengths. */
-static void measure_lengths(void)
+static void measure_all(int calls)
 {
-    static uint8_t packet[LONGEST];
-    for (size_t i = 0; i < sizeof lifetimes / sizeof *lifetimes; i++) {
-        build(packet, 4, lifetimes[i]);
-        counted(&ours, LOWER, packet, lifetimes[i]);
-        printf("%zu\n", lifetimes[i]);
-    }
-}
-
-int main(int argc, char **argv)
-{
-    memcpy(ways + 1, by_cc, sizeof by_cc);
-#ifdef CLANG
-    memcpy(ways + 1 + C_WAYS, by_clang, sizeof by_clang);
-#endif
-    const char *what = argc == 2 ? argv[1] : "";
-    int calls = strcmp(what, "calls") == 0;
-    if (strcmp(what, "lengths") == 0) {
-        measure_lengths();
-        return 0;
-    }
-    if (!calls && strcmp(what, "times") != 0) {
-        fprintf(stderr, "usage: bench calls|lengths|times\n");
-        return 2;
-    }
     for (enum operation op = 0; op < OPERATIONS; op++)
         for (int family = 4; family <= 6; family += 2)
             for (size_t i = 0; i < sizeof lengths / sizeof *lengths; i++)
                 /* a sum has no family, and 40 bytes hold no UDP over IPv6 */
                 if (family == 4 || (op > CHAIN && lengths[i] != 40))
-                    measure(calls, op, family, lengths[i]);
+                    measure(calls, (struct row){op, family, lengths[i]});
+}
+
+#ifndef ONLY_OURS
+static void hold_same(unsigned long packets)
+{
+    unsigned long calls = 0;
+    for (size_t w = ways_len - same; w < ways_len; w++)
+        calls += differ(&ours, ways[w].by, ways[w].way, w, packets / same);
+    printf("same.c does what the library does: %lu calls on %lu random packets\n", calls, packets / same * same);
+}
+#endif
+
+int main(int argc, char **argv)
+{
+    const char *what = argc >= 2 ? argv[1] : "";
+    enter_all();
+    if (strcmp(what, "calls") == 0 || strcmp(what, "times") == 0)
+        measure_all(what[0] == 'c');
+    else if (strcmp(what, "lengths") == 0) {
+        ways_len = 1;
+        for (size_t i = 0; i < sizeof lifetimes / sizeof *lifetimes; i++)
+            measure(1, (struct row){LOWER, 4, lifetimes[i]});
+    } else if (strcmp(what, "ten") == 0)
+        for (size_t i = 0; i < sizeof ten / sizeof *ten; i++)
+            measure(1, ten[i]);
+    else if (strcmp(what, "nine") == 0)
+        for (size_t i = 0; i < sizeof nine / sizeof *nine; i++)
+            measure(1, nine[i]);
+#ifndef ONLY_OURS
+    else if (strcmp(what, "same") == 0 && argc == 3)
+        hold_same(strtoul(argv[2], NULL, 10));
+#endif
+    else {
+        fprintf(stderr, "usage: bench calls|lengths|ten|nine|times|same COUNT\n");
+        return 2;
+    }
     return 0;
 }

@@ -251,7 +251,7 @@ EACH uint8_t stretch(summing sum, uint8_t *p, size_t len, size_t where, const ui
 
 WAY(rfc1071, "RFC 1071 loop");
 WAY(wide, "64-bit loop");
-WAY(dpdk, "DPDK's shape");
+WAY(dpdk, "DPDK shape");
 
 /* RFC 1624, equation 3 */
 static inline uint16_t update(uint16_t field, uint16_t old, uint16_t new)
@@ -312,5 +312,5 @@ static uint8_t hand_stretch(uint8_t *p, size_t len, size_t where, const uint8_t 
 
 static const struct way by_hand = {"RFC 1624 by hand", 0, 0, 0, 0, hand_lower, hand_address, hand_stretch};
 
-/* BY is by_cc or by_clang. */
-const struct way *const BY[C_WAYS] = {&rfc1071, &wide, &dpdk, &by_hand};
+/* BY is plain_cc or plain_clang. */
+const struct way *const BY[PLAIN_WAYS] = {&rfc1071, &wide, &dpdk, &by_hand};

@@ -16,9 +16,16 @@ struct way {
     uint8_t (*stretch)(uint8_t *, size_t, size_t, const uint8_t *, size_t);
 };
 
-/* The loop of RFC 1071, a 64-bit accumulator, the shape of DPDK's rte_raw_cksum, and RFC 1624 by hand,
- * which has no field, chain, judge or mend: as one C compiler makes them, and as clang does. */
-enum { C_WAYS = 4 };
-extern const struct way *const by_cc[C_WAYS], *const by_clang[C_WAYS];
+/* ways.c, as one C compiler makes it and as clang does: the loop of RFC 1071, a 64-bit accumulator, the shape of DPDK's
+ * rte_raw_cksum, and RFC 1624 by hand, which has no field, chain, judge or mend. */
+enum { PLAIN_WAYS = 4 };
+extern const struct way *const plain_cc[PLAIN_WAYS], *const plain_clang[PLAIN_WAYS];
+
+/* same.c, by both and with each kind of its sums; it has no chain. */
+extern const struct way c_cc, adc_cc, sse2_cc, c_clang, adc_clang, sse2_clang;
+
+/* differ.c: stops the program at the first difference between two ways, in answers or in bytes, on packets from a
+ * seeded generator. Answers how many calls were compared. */
+unsigned long differ(const struct way *ours, const char *by, const struct way *way, uint64_t seed, unsigned long packets);
 
 #endif

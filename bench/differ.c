@@ -1,0 +1,189 @@
+/* Holds one way to another on random packets: all protocols, families, options, fragments, tails and corner fields, all
+ * lengths, and every refusal. Most packets are built right and then damaged a little or not at all, so that each
+ * test decides often. */
+#include <stdio.h>
+#include <stdlib.h>
+#include <string.h>
+
+#include "ways.h"
+
+enum { ROOM = 2048, GUARD = 16 };
+
+static uint64_t state;
+
+/* A number below n: xorshift, whose high half is taken. */
+static size_t below(size_t n)
+{
+    state ^= state << 13;
+    state ^= state >> 7;
+    state ^= state << 17;
+    return (size_t)((state >> 32) % n);
+}
+
+static void put(uint8_t *at, size_t value)
+{
+    at[0] = (uint8_t)(value >> 8);
+    at[1] = (uint8_t)value;
+}
+
+/* Random bytes, or all of one kind. */
+static void fill(uint8_t *at, size_t len)
+{
+    size_t kind = below(8);
+    for (size_t i = 0; i < len; i++)
+        at[i] = kind == 0 ? 0 : kind == 1 ? 0xFF : kind == 2 ? (uint8_t)(0 - below(2)) : (uint8_t)below(256);
+}
+
+/* Field values that decide something, or any. */
+static size_t corner(void)
+{
+    static const uint16_t corners[] = {0, 0xFFFF, 1, 0xFFFE, 0x0100, 0xFEFF};
+    return below(2) ? corners[below(6)] : below(65536);
+}
+
+/* Builds a packet and answers its length. Its fields are fresh, or corners. */
+static size_t build(const struct way *ours, uint8_t *p)
+{
+    static const uint8_t protocols[] = {1, 6, 17, 58, 17, 6}, heads[] = {8, 20, 8, 4, 8, 20}, fields[] = {2, 16, 6, 2, 6, 16};
+    size_t kind = below(6), four = kind == 0 || (kind != 3 && below(2));
+    size_t header = four ? (below(3) ? 20 : 20 + 4 * below(11)) : 40;
+    size_t extra = below(4) == 0 ? below(1500) : below(140), end = header + heads[kind] + extra;
+    fill(p, ROOM);
+    p[0] = (uint8_t)(four ? 64 + header / 4 : 96 + below(16));
+    put(p + (four ? 2 : 4), four ? end : end - header);
+    if (four)
+        put(p + 6, below(2) ? 0x4000 : 0x8000 * below(2));
+    p[four ? 9 : 6] = protocols[kind];
+    if (below(8) == 0)
+        p[four ? 8 : 7] = (uint8_t)below(3);
+    if (protocols[kind] == 6)
+        p[header + 12] = (uint8_t)(80 + 16 * below(below(2) ? 1 : 11));
+    if (protocols[kind] == 17)
+        put(p + header + 4, end - header);
+    /* a body that makes the message's total a multiple of 65535, which is what a fresh field makes of it */
+    size_t field = header + fields[kind];
+    ours->mend(p, end);
+    if (below(4) == 0 && extra >= 2) {
+        size_t at = (end - 2 - header) / 2 * 2 + header;
+        uint8_t was[2] = {p[at], p[at + 1]};
+        put(p + field, corner());
+        unsigned old = (unsigned)was[0] * 256 + was[1], now = (unsigned)p[field] * 256 + p[field + 1];
+        uint8_t twin[ROOM];
+        memcpy(twin, p, ROOM);
+        put(twin + field, 1);
+        ours->mend(twin, end);
+        unsigned fresh = (unsigned)twin[field] * 256 + twin[field + 1];
+        put(p + at, (old + fresh + 65535 - now) % 65535);
+    } else if (below(3) == 0)
+        put(p + field, corner());
+    if (four && below(6) == 0)
+        put(p + 10, corner());
+    return end + (below(4) ? 0 : below(20));
+}
+
+/* Sets the IPv4 header's field fresh, whatever the header says: behind a wrong header sum a judge sees nothing. */
+static void seal(uint8_t *p)
+{
+    size_t total = 0, header = 4u * (p[0] & 15);
+    put(p + 10, 0);
+    for (size_t i = 0; i < header; i++)
+        total += i % 2 ? p[i] : 256u * p[i];
+    put(p + 10, 65535 - (total == 0 ? 0 : 1 + (total - 1) % 65535));
+}
+
+/* Damages a packet: one of the places that a test looks at, or any byte; or its length. */
+static size_t damage(uint8_t *p, size_t len)
+{
+    static const uint8_t places[] = {0, 2, 3, 4, 5, 6, 7, 8, 9, 10, 12, 24, 25, 32, 44, 45};
+    size_t header = p[0] >> 4 == 4 ? 4u * (p[0] & 15) : 40;
+    switch (below(8)) {
+    case 0: return below(len + 1);
+    case 1: return below(64);
+    case 2: p[places[below(16)]] = (uint8_t)below(256); break;
+    case 3: p[places[below(16)]] ^= (uint8_t)(1 << below(8)); break;
+    case 4: p[header + below(20)] ^= (uint8_t)(1 << below(8)); break;
+    case 5: p[below(len + 1)] = (uint8_t)below(256); break;
+    case 6: put(p + (below(2) ? 2 : 4), header + below(len + 1)); break;
+    default: p[0] = (uint8_t)below(256); break;
+    }
+    return len;
+}
+
+/* What is called, with which arguments. */
+struct call {
+    int op;
+    size_t len, number, new_len;
+    uint8_t new[ROOM];
+};
+
+static unsigned make(const struct way *way, const struct call *c, uint8_t *p)
+{
+    switch (c->op) {
+    case 0: return way->field(p, c->len);
+    case 1: return way->judge(p, c->len);
+    case 2: return way->mend(p, c->len);
+    case 3: return way->lower(p, c->len);
+    case 4: return way->address(p, c->len, (uint32_t)c->number, c->new, c->new_len);
+    default: return way->stretch(p, c->len, c->number, c->new, c->new_len);
+    }
+}
+
+/* An edit's arguments: mostly such as fit, and sometimes what stands there now. */
+static void choose(struct call *c, const uint8_t *p)
+{
+    int four = p[0] >> 4 == 4;
+    fill(c->new, ROOM);
+    if (c->op == 4) {
+        c->number = below(10) ? below(2) : below(2) ? below(5) : 0xFFFFFFFF - below(2);
+        c->new_len = below(10) ? (four ? 4 : 16) : below(20);
+        if (below(8) == 0)
+            memcpy(c->new, p + (four ? 12 : 8), 16);
+    } else if (c->op == 5) {
+        size_t size = below(3) ? 40 : 1500;
+        c->number = below(10) ? below(size / 2) : below(2) ? below(ROOM) : SIZE_MAX - below(4);
+        c->new_len = below(16) ? below(size / 2) : SIZE_MAX - below(4);
+        if (below(8) == 0 && c->number < ROOM / 4)
+            memcpy(c->new, p + 28 + c->number, ROOM / 4);
+    }
+}
+
+unsigned long differ(const struct way *ours, const char *by, const struct way *way, uint64_t seed, unsigned long packets)
+{
+    static uint8_t packet[ROOM + GUARD], want[ROOM + GUARD], got[ROOM + GUARD];
+    static unsigned long seen[6][13];
+    static struct call c;
+    unsigned long calls = 0;
+    state = seed * 0x9E3779B97F4A7C15 + 1;
+    for (unsigned long i = 0; i < packets; i++) {
+        c.len = build(ours, packet);
+        for (size_t times = below(4); times > 1; times--)
+            c.len = damage(packet, c.len);
+        if (packet[0] >> 4 == 4 && below(3) == 0)
+            seal(packet);
+        for (c.op = 0; c.op < 6; c.op++) {
+            choose(&c, packet);
+            memcpy(want, packet, sizeof packet);
+            memcpy(got, packet, sizeof packet);
+            unsigned a = make(ours, &c, want), b = make(way, &c, got);
+            if (a != b || memcmp(want, got, sizeof want) != 0) {
+                fprintf(stderr, "bench: %s%s differs from the library: operation %d, length %zu, answers %u and %u, number %zu, %zu new bytes:\n",
+                        by, way->name, c.op, c.len, a, b, c.number, c.new_len);
+                for (size_t k = 0; k < c.len; k++)
+                    fprintf(stderr, "%02X%s", packet[k], k % 32 == 31 || k + 1 == c.len ? "\n" : " ");
+                exit(1);
+            }
+            if (c.op > 0)
+                seen[c.op][a]++;
+            calls++;
+        }
+    }
+    /* every verdict that a call has must have been met */
+    static const unsigned possible[6] = {0, 0x3FF, 0xDD, 0x9DD, 0x5DD, 0x15DD};
+    for (int op = 1; op < 6; op++)
+        for (int v = 0; v < 13; v++)
+            if ((seen[op][v] == 0) == (possible[op] >> v & 1) && packets >= 10000) {
+                fprintf(stderr, "bench: operation %d answered %d %lu times\n", op, v, seen[op][v]);
+                exit(1);
+            }
+    return calls;
+}

@@ -1,0 +1,317 @@
+/* The library's strongest opponent: C that makes the same tests in the same order, for all protocols and families, and
+ * so gives the same answers and bytes. Everything is inlined: each protocol has its own copy of each call, and an IPv4
+ * header of 20 bytes its own copy again. `bench same` holds all of it to the library.
+ *
+ * BY is the name of the way that this becomes, and KIND that of its sum. */
+#include "sums.h"
+#include "ways.h"
+
+enum { ICMP = 1, TCP = 6, UDP = 17, ICMP6 = 58 };
+
+/* What is asked besides the packet: a side or place, and new bytes. */
+struct ask {
+    size_t number, len;
+    const uint8_t *bytes;
+};
+
+/* A message whose shape is right, and where its body begins. The first four are constants in each copy, and so is the
+ * header's length but for one copy. */
+struct message {
+    int family, protocol;
+    size_t fixed, field, header, len, body;
+};
+
+/* What a call does once the shape is known. */
+typedef uint8_t work(uint8_t *p, struct message m, struct ask ask);
+
+/* The layout */
+
+EACH uint8_t inner(work *then, uint8_t *p, struct message m, struct ask ask)
+{
+    const uint8_t *message = p + m.header;
+    if (RARE(m.len < m.fixed))
+        return 4;
+    m.body = m.fixed;
+    if (m.protocol == TCP) {
+        m.body = message[12] / 16 * 4u;
+        if (RARE(m.body < 20 || m.body > m.len))
+            return 4;
+    }
+    if (m.protocol == UDP && (m.family == 4 ? RARE(number(message + 4) != m.len) : RARE(two(message + 4) != two(p + 4))))
+        return 4;
+    return then(p, m, ask);
+}
+
+EACH uint8_t covered(work *then, uint8_t *p, int family, size_t header, size_t len, struct ask ask)
+{
+    unsigned protocol = p[family == 4 ? 9 : 6];
+    if (__builtin_expect(protocol == UDP, 1))
+        return inner(then, p, (struct message){family, UDP, 8, 6, header, len, 0}, ask);
+    if (protocol == TCP)
+        return inner(then, p, (struct message){family, TCP, 20, 16, header, len, 0}, ask);
+    if (family == 4 && protocol == ICMP)
+        return inner(then, p, (struct message){family, ICMP, 8, 2, header, len, 0}, ask);
+    if (family == 6 && protocol == ICMP6)
+        return inner(then, p, (struct message){family, ICMP6, 4, 2, header, len, 0}, ask);
+    return 7;
+}
+
+/* An IPv4 header of which 20 bytes are there. */
+EACH uint8_t outer4(work *then, int judging, uint8_t *p, size_t len, size_t header, struct ask ask)
+{
+    /* a declared length below the header's wraps, and is then too much too */
+    size_t message = (size_t)number(p + 2) - header;
+    if (RARE(message > len - header))
+        return number(p + 2) < header ? 4 : 2;
+    if (judging) {
+        u64 t = add_two(eight(p), four(p + 8), eight(p + 12));
+        for (size_t i = 20; i < header; i += 4)
+            t = add(t, four(p + i));
+        if (RARE(!passes(t)))
+            return 5;
+    }
+    if (RARE(two(p + 6) & 0xFF3F))
+        return 6;
+    return covered(then, p, 4, header, message, ask);
+}
+
+/* Finds the message, or the first refusal. Only a judge looks at the header's sum. */
+EACH uint8_t layout(work *then, int judging, uint8_t *p, size_t len, struct ask ask)
+{
+    if (RARE(len < 20)) {
+        if (len == 0)
+            return 2;
+        return p[0] >> 4 == 4 || p[0] >> 4 == 6 ? 2 : 3;
+    }
+    if (p[0] == 0x45)
+        return outer4(then, judging, p, len, 20, ask);
+    if (p[0] >> 4 == 6) {
+        size_t message = number(p + 4);
+        if (RARE(len < 40) || RARE(message > len - 40))
+            return 2;
+        return covered(then, p, 6, 40, message, ask);
+    }
+    if (p[0] >> 4 != 4)
+        return 3;
+    size_t header = 4u * (p[0] & 15);
+    if (header < 20)
+        return 4;
+    if (len < header)
+        return number(p + 2) < header ? 4 : 2;
+    return outer4(then, judging, p, len, header, ask);
+}
+
+/* Sums */
+
+/* The total of what a message's field covers. Of the pseudo-header, length and protocol stand in low bytes, and 256 is
+ * their weight here. */
+EACH u64 total(const uint8_t *p, struct message m, u64 t)
+{
+    if (m.protocol != ICMP) {
+        t += (u64)(m.len + (size_t)m.protocol) << 8;
+        t = m.family == 4 ? add(t, eight(p + 12)) : add_32(t, p + 8);
+    }
+    return add_bytes(t, p + m.header, m.len);
+}
+
+EACH int silent(const uint8_t *p, struct message m)
+{
+    return m.protocol == UDP && two(p + m.header + 6) == 0;
+}
+
+/* A field less a change that is given as old - new modulo 65535, in 48 bits. UDP's 0000 is sent as FFFF. */
+EACH unsigned changed(unsigned field, u64 change, int udp)
+{
+    unsigned f = (unsigned)((field + change) % 65535);
+    return udp && f == 0 ? 0xFFFF : f;
+}
+
+/* Judging and mending */
+
+EACH uint8_t judged(uint8_t *p, struct message m, struct ask ask)
+{
+    (void)ask;
+    if (RARE(silent(p, m)))
+        return m.family == 4 ? 1 : 8;
+    return passes(total(p, m, 0)) ? 0 : 9;
+}
+
+/* Whether bytes are all zeros. */
+EACH int blank(const uint8_t *at, size_t len)
+{
+    while (len > 0 && *at == 0)
+        at++, len--;
+    return len == 0;
+}
+
+EACH uint8_t mended(uint8_t *p, struct message m, struct ask ask)
+{
+    (void)ask;
+    uint8_t *message = p + m.header;
+    if (m.family == 4) {
+        u64 t = add_two(eight(p), two(p + 8), eight(p + 12));
+        for (size_t i = 20; i < m.header; i += 4)
+            t = add(t, four(p + i));
+        put_two(p + 10, field_of(t));
+        if (RARE(silent(p, m)))
+            return 0;
+    }
+    /* the field is summed with the rest, and its complement makes it nothing */
+    unsigned field = two(message + m.field) ^ 0xFFFF;
+    unsigned fresh = field_of(total(p, m, field));
+    if (m.protocol == UDP && RARE(fresh == 0))
+        fresh = 0xFFFF;
+    if (m.protocol == ICMP && RARE(fresh == 0) && two(message) == 0 && blank(message + 4, m.len - 4))
+        fresh = 0xFFFF;
+    put_two(message + m.field, fresh);
+    return 0;
+}
+
+/* Edits */
+
+EACH uint8_t lowered(uint8_t *p, struct message m, struct ask ask)
+{
+    (void)ask;
+    if (m.family == 6) {
+        if (RARE(silent(p, m)))
+            return 8;
+        if (RARE(p[7] < 2))
+            return 11;
+        p[7]--;
+        return 0;
+    }
+    /* the field is the high half of the four bytes from the lifetime on: one less here is one more there */
+    uint32_t w = (uint32_t)four(p + 8);
+    if (RARE((uint8_t)w < 2))
+        return 11;
+    w += RARE(w >= 0xFFFE0000) ? 0x1FFFF : 0xFFFF;
+    memcpy(p + 8, &w, 4);
+    return 0;
+}
+
+EACH uint8_t addressed(uint8_t *p, struct message m, struct ask ask)
+{
+    uint8_t *field = p + m.header + m.field;
+    if (m.family == 6 && RARE(silent(p, m)))
+        return 8;
+    if (RARE(ask.number > 1) || RARE(ask.len != (m.family == 4 ? 4 : 16)))
+        return 10;
+    u64 change;
+    if (m.family == 4) {
+        uint8_t *at = p + 12 + 4 * ask.number;
+        uint32_t new = (uint32_t)four(ask.bytes);
+        change = four(at) + (uint32_t)~new;
+        memcpy(at, &new, 4);
+        put_two(p + 10, changed(two(p + 10), change, 0));
+    } else {
+        uint8_t *at = p + 8 + 16 * ask.number;
+        u64 low = eight(ask.bytes), high = eight(ask.bytes + 8);
+        u64 t = add_two(add(eight(at), eight(at + 8)), ~low, ~high);
+        change = (t >> 32) + (uint32_t)t;
+        memcpy(at, &low, 8);
+        memcpy(at + 8, &high, 8);
+    }
+    if (m.protocol == ICMP)
+        return 0;
+    unsigned old = two(field);
+    if (m.family == 4 && m.protocol == UDP && RARE(old == 0))
+        return 0;
+    put_two(field, changed(old, change, m.protocol == UDP));
+    return 0;
+}
+
+/* Whether ICMP, its field aside, is all zeros now, or would be with the new bytes at a place of the message. */
+EACH int blanks(const uint8_t *message, size_t len, size_t at, struct ask ask)
+{
+    size_t end = at + ask.len;
+    return two(message) == 0 && blank(message + 4, at - 4) && blank(message + end, len - end) &&
+           (blank(message + at, ask.len) || blank(ask.bytes, ask.len));
+}
+
+/* Writes bytes and answers old - new modulo 65535, by the place of the first. */
+EACH u64 replace(uint8_t *at, const uint8_t *bytes, size_t len)
+{
+    u64 t = 0;
+    for (; len >= 8; len -= 8, at += 8, bytes += 8) {
+        u64 new = eight(bytes);
+        t = add_two(t, eight(at), ~new);
+        memcpy(at, &new, 8);
+    }
+    if (len & 4) {
+        uint32_t new = (uint32_t)four(bytes);
+        t = add(t, four(at) + (uint32_t)~new);
+        memcpy(at, &new, 4);
+        at += 4;
+        bytes += 4;
+    }
+    if (len & 2) {
+        unsigned new = two(bytes);
+        t = add(t, two(at) + (new ^ 0xFFFF));
+        put_two(at, new);
+        at += 2;
+        bytes += 2;
+    }
+    if (len & 1) {
+        t = add(t, *at + (*bytes ^ 0xFFFFu));
+        *at = *bytes;
+    }
+    return t;
+}
+
+EACH uint8_t stretched(uint8_t *p, struct message m, struct ask ask)
+{
+    uint8_t *message = p + m.header, *field = message + m.field;
+    size_t room = m.len - m.body, at = m.body + ask.number;
+    if (m.family == 6 && RARE(silent(p, m)))
+        return 8;
+    if (RARE(ask.len > room) || RARE(ask.number > room - ask.len))
+        return 10;
+    if (RARE(ask.len == 0))
+        return 0;
+    if (m.protocol == ICMP && RARE(blanks(message, m.len, at, ask)))
+        return 12;
+    unsigned old = two(field);
+    u64 t = replace(message + at, ask.bytes, ask.len), change = (t >> 32) + (uint32_t)t;
+    if (m.family == 4 && m.protocol == UDP && RARE(old == 0))
+        return 0;
+    /* from an odd place each byte has 256 times the weight, or a 256th of it, which is the same */
+    put_two(field, changed(old, ask.number % 2 ? change << 8 : change, m.protocol == UDP));
+    return 0;
+}
+
+/* The calls */
+
+static const struct ask none = {0, 0, 0};
+
+static uint16_t field(const uint8_t *bytes, size_t len)
+{
+    u64 t = RARE(len < 8) ? few(bytes, len) : add_bytes(0, bytes, len);
+    return RARE(t == 0) ? 0xFFFF : __builtin_bswap16((uint16_t)field_of(t));
+}
+
+static uint8_t judge(const uint8_t *packet, size_t len)
+{
+    return layout(judged, 1, (uint8_t *)packet, len, none);
+}
+
+static uint8_t mend(uint8_t *packet, size_t len)
+{
+    return layout(mended, 0, packet, len, none);
+}
+
+static uint8_t lower(uint8_t *packet, size_t len)
+{
+    return layout(lowered, 0, packet, len, none);
+}
+
+static uint8_t address(uint8_t *packet, size_t len, uint32_t side, const uint8_t *bytes, size_t bytes_len)
+{
+    return layout(addressed, 0, packet, len, (struct ask){side, bytes_len, bytes});
+}
+
+static uint8_t stretch(uint8_t *packet, size_t len, size_t place, const uint8_t *bytes, size_t bytes_len)
+{
+    return layout(stretched, 0, packet, len, (struct ask){place, bytes_len, bytes});
+}
+
+const struct way BY = {KIND == PLAIN ? "C" : KIND == CHAINS ? "adc" : "SSE2", field, 0, judge, mend, lower, address, stretch};
