@@ -1,12 +1,16 @@
 #!/bin/sh
 # Measures the library beside C that a user would take instead, and prints tables in markdown.
 #
-# On any machine: the instructions of each call, counted in the trace of qemu-x86_64 running one instruction at a time.
-# On x86-64 also times, as ratios. The library is what the kit's LLVM makes of it; the C is compiled with -O2 by the
-# machine's C compiler, and by clang too where there is one.
+# On any machine: the instructions of each call, counted in the trace of qemu-x86_64 running one instruction at a time,
+# and cycles that llvm-mca estimates. On x86-64 also times. The library is what the kit's LLVM makes of it. Plain C
+# (ways.c) is compiled with -O2, and C that makes the library's own tests (same.c) with -O3, by the machine's C compiler
+# and by clang where there is one.
+#
+#   BEFORE=DIR/libhifrostum.a bench/run.sh   also counts the library as it is in that archive, in a column of its own:
+#                                            run `scripts/x86.sh lib` in a clone at another commit, and keep the archive
 set -eu
 cd "$(dirname "$0")/.."
-x86=scripts/x86.sh out=target/bench flags='-O2 -std=c11 -Wall -Wextra -Iinclude'
+x86=scripts/x86.sh out=target/bench flags='-std=c11 -Wall -Wextra -Iinclude'
 
 if ! command -v qemu-x86_64 >/dev/null; then
     echo "bench: instructions are counted by qemu-x86_64: install Debian's qemu-user" >&2
@@ -14,79 +18,93 @@ if ! command -v qemu-x86_64 >/dev/null; then
 fi
 archive=$($x86 lib)/libhifrostum.a
 mkdir -p $out
+
 # static, so that a trace has no loader in it and every function has its name
-objects=$out/ways-cc.o clang=
+objects='' compilers=cc
+! $x86 has clang || compilers='cc clang'
 # shellcheck disable=SC2086
 {
-    $x86 cc $flags -DBY=by_cc -c bench/ways.c -o $out/ways-cc.o
-    if $x86 has clang; then
-        $x86 clang $flags -DBY=by_clang -c bench/ways.c -o $out/ways-clang.o
-        objects="$objects $out/ways-clang.o" clang=-DCLANG
-    fi
-    $x86 cc $flags $clang -static bench/bench.c $objects "$archive" -o $out/bench
-}
-
-# newer emulators have another name for the option
-single=-one-insn-per-tb
-qemu-x86_64 -h | grep -q -e "$single" || single=-singlestep
-
-# Prints for each call of 'bench WHAT' its line, a bar, and the number of instructions between begin() and end().
-counts() { # WHAT
-    qemu-x86_64 $single -d exec,nochain $out/bench "$1" 2>&1 >$out/lines | awk '
-        $NF == "begin" { n = 0; on = 1; next }
-        $NF == "end" && on { print n; on = 0 }
-        on && $NF !~ /^counted/ { n++ }' >$out/counts
-    paste -d '|' $out/lines $out/counts
-}
-
-# The head of a table.
-head_of() {
-    line='| operation | packet | ours |' rule='|---|---|---|'
-    for by in cc ${clang:+clang}; do
-        line="$line $by: RFC 1071 loop | $by: 64-bit loop | $by: DPDK shape | $by: RFC 1624 by hand |"
-        rule="$rule---|---|---|---|"
+    for by in $compilers; do
+        $x86 "$by" -O2 $flags -DBY="plain_$by" -c bench/ways.c -o "$out/plain-$by.o"
+        $x86 "$by" -O3 $flags -DBY="c_$by" -DKIND=PLAIN -c bench/same.c -o "$out/c-$by.o"
+        $x86 "$by" -O3 $flags -DBY="adc_$by" -DKIND=CHAINS -c bench/same.c -o "$out/adc-$by.o"
+        $x86 "$by" -O3 $flags -DBY="sse2_$by" -DKIND=VECTORS -c bench/same.c -o "$out/sse2-$by.o"
+        objects="$objects $out/plain-$by.o $out/c-$by.o $out/adc-$by.o $out/sse2-$by.o"
     done
-    printf '\n%s\n%s\n' "$line" "$rule"
+    clang=
+    [ "$compilers" = cc ] || clang=-DCLANG
+    $x86 cc -O2 $flags $clang -static bench/bench.c bench/differ.c $objects "$archive" -o $out/bench
 }
 
-echo "ours: $(rt version | cut -d ' ' -f 1); cc: $($x86 cc --version | head -n 1), -O2"
-if [ -n "$clang" ]; then
-    echo "clang: $($x86 clang --version | head -n 1), -O2"
-else
-    echo "clang: none for x86-64 here"
+# Prints a table of lines 'operation | packet | column | value'. KIND says what the last column is, and the others:
+# plain (values), same (values, and ours over the best of the others) or times (ours, and the others over ours).
+table() { # KIND COLUMN..
+    kind=$1
+    shift
+    columns=$(printf '%s;' "$@")
+    awk -F ' *[|] *' -v kind="$kind" -v columns="$columns" -f bench/table.awk
+}
+
+# the columns' names
+plain='' same=''
+for by in $compilers; do
+    plain="$plain;$by: RFC 1071 loop;$by: 64-bit loop;$by: DPDK shape;$by: RFC 1624 by hand"
+    same="$same;$by: C;$by: adc;$by: SSE2"
+done
+
+echo "ours: $(rt version | cut -d ' ' -f 1)"
+for by in $compilers; do
+    echo "$by: $($x86 "$by" --version | head -n 1), -O2; -O3 where it makes the same tests"
+done
+[ "$compilers" != cc ] || echo "clang: none for x86-64 here"
+$x86 run $out/bench same 200000
+
+bench/count.sh $out/bench calls >$out/calls
+before=
+if [ -n "${BEFORE:-}" ]; then
+    # shellcheck disable=SC2086
+    $x86 cc -O2 $flags -DONLY_OURS -static bench/bench.c "$BEFORE" -o $out/bench-before
+    bench/count.sh $out/bench-before calls | sed 's/| ours |/| before |/' >>$out/calls
+    before=';before'
 fi
+
 echo
-echo "Instructions for each call (counted by $(qemu-x86_64 --version | sed -n '1s/ (.*//p')):"
-head_of
-counts calls | awk -F ' *[|] *' -v ways="$([ -n "$clang" ] && echo 9 || echo 5)" '
-    function row(w, text) {
-        if (name == "") return
-        text = "| " name " |"
-        for (w = 0; w < ways; w++) text = text " " n[w] " |"
-        print text
-    }
-    name != $1 " | " $2 { row(); split("", n); name = $1 " | " $2 }
-    { n[$3] = $4 }
-    END { row() }'
+echo "Instructions for each call (counted by $(qemu-x86_64 --version | sed -n '1s/ (.*//p'))."
+echo
+echo "Beside C that serves UDP alone and tests less:"
+echo
+table plain "ours$before$plain" <$out/calls
+echo
+echo "Beside C that makes the same tests in the same order, for all protocols and families, everything inlined: its"
+echo "sum in C, by chains of add-with-carry (adc, assembly), and by SSE2 for long strings and by such chains for short"
+echo "ones:"
+echo
+table same "ours$before$same" <$out/calls
 
 echo
 echo "Instructions for lowering the lifetime of an IPv4 packet, by its length:"
 echo
 echo "| bytes | instructions |"
 echo "|---|---|"
-counts lengths >$out/lengths
-sed 's/^/| /; s/|\([0-9]*\)$/ | \1 |/' $out/lengths
-if [ "$(cut -d '|' -f 2 $out/lengths | sort -u | wc -l)" -ne 1 ]; then
+bench/count.sh $out/bench lengths >$out/lengths
+sed 's/^[^|]*| IPv4 \([0-9]*\) |[^|]*|/| \1 |/; s/$/ |/' $out/lengths
+if [ "$(sed 's/.*| //' $out/lengths | sort -u | wc -l)" -ne 1 ]; then
     echo "bench: the edit's cost grows with the packet" >&2
     exit 1
 fi
 
 echo
+bench/cycles.sh $out/bench
+
+echo
 if $x86 native; then
+    $x86 run $out/bench times >$out/times
     echo "Nanoseconds for each call of ours, and how many times as long the others take (best of 3,000 batches, in turns;"
     echo "$(sed -n 's/^model name[^:]*: *//p' /proc/cpuinfo | head -n 1)):"
-    head_of
-    $x86 run $out/bench times
+    echo
+    table times "ours$plain" <$out/times
+    echo
+    table times "ours$same" <$out/times
 else
     echo "Times are measured on x86-64 alone; this machine is $(uname -m)."
 fi

@@ -160,9 +160,9 @@ EACH u64 add_vectors(u64 t, const uint8_t *at, const uint8_t *end)
     do {
         for (int i = 0; i < 64; i += 16) {
             __m128i v = _mm_loadu_si128((const __m128i *)(const void *)(at + i));
-            words = _mm_add_epi64(words, v);
-            __asm__("" : "+x"(v), "+x"(words)); /* else gcc shifts a copy, to no end */
-            highs = _mm_add_epi64(highs, _mm_srli_epi64(v, 32));
+            /* by _mm_add_epi64 and _mm_srli_epi64 gcc would shift a copy */
+            __asm__("paddq %1, %0\n\tpsrlq $32, %1" : "+x"(words), "+x"(v));
+            highs = _mm_add_epi64(highs, v);
         }
         at += 64;
     } while (at != end);

@@ -1,0 +1,59 @@
+#!/bin/sh
+# Prints cycles for nine calls, the library's and those of the C that makes the same tests, as llvm-mca estimates them
+# for two processors. It is given the instructions that were executed, in their order, call after call.
+#
+#   cycles.sh PROGRAM   PROGRAM is what run.sh made of bench.c
+set -eu
+cd "$(dirname "$0")/.."
+program=$1 out=target/bench turns=50
+
+if ! command -v llvm-mca >/dev/null || ! command -v llvm-objdump >/dev/null; then
+    echo "Cycles aren't estimated: there is no llvm-mca here (Debian's llvm has it)."
+    exit 0
+fi
+bench/count.sh "$program" nine $out/addresses | sed 's/ | [0-9]*$//' >$out/nine
+llvm-objdump -d --no-show-raw-insn "$program" >$out/listing
+
+# A region for each call: the arguments as a caller sets them, which also part the calls from each other, then what was
+# executed, without calls and returns, which the model doesn't know.
+awk -F '\n' '
+    FILENAME == ARGV[1] {
+        if (match($0, /^ *[0-9a-f]+:/)) {
+            at = substr($0, 1, RLENGTH - 1)
+            gsub(/ /, "", at)
+            text = substr($0, RLENGTH + 1)
+            gsub(/<.*>|#.*/, "", text)
+            code[at] = text
+        }
+        next
+    }
+    FILENAME == ARGV[2] { name[++names] = $0; next }
+    !open {
+        open = 1
+        gsub(/ /, "_", name[++call])
+        print "# LLVM-MCA-BEGIN " name[call]
+        print "movl $0, %eax\nmovl $64, %edi\nmovl $64, %esi"
+        if (name[call] ~ /^set/) print "movl $64, %edx\nmovl $64, %ecx\nmovl $64, %r8d"
+    }
+    /^$/ { print "# LLVM-MCA-END"; open = 0; next }
+    {
+        sub(/^0+/, "")
+        if (code[$0] !~ /^[ \t]*(call|ret)/) print code[$0]
+    }' $out/listing $out/nine $out/addresses >$out/executed.s
+
+estimate() { # PROCESSOR
+    llvm-mca -mtriple=x86_64-linux-gnu -mcpu="$1" -iterations=$turns -instruction-info=false -resource-pressure=false \
+        $out/executed.s | awk -v turns=$turns '
+        /Code Region - / { sub(/.*Code Region - /, ""); gsub(/_/, " "); name = $0 }
+        /^Total Cycles:/ { printf "%s | %.0f\n", name, $3 / turns }'
+}
+
+columns='ours;cc: C;cc: adc;cc: SSE2'
+! grep -q clang $out/nine || columns="$columns;clang: C;clang: adc;clang: SSE2"
+echo "Cycles for each call, estimated by llvm-mca ($(llvm-mca --version | sed -n 's/.*LLVM version/LLVM/p')). This is a"
+echo "model and no measurement: every load is met in the nearest cache, every branch is foreseen, calls and returns cost"
+echo "nothing, and calls follow each other, of which the next begins before the last has ended."
+for processor in skylake znver3; do
+    printf '\n%s:\n\n' $processor
+    estimate $processor | awk -F ' *[|] *' -v kind=same -v columns="$columns" -f bench/table.awk
+done
