@@ -3,7 +3,7 @@
  *     bench calls        calls each once, between begin() and end(), and prints a line for each call:
  *                        what an emulator's trace is counted by
  *     bench lengths      the same for the library's lifetime edit alone, for lengths from 64 to 60,000
- *     bench ten          the same for the ten calls whose counts the gate watches
+ *     bench ten          the same for those ten of the library's calls whose counts the gate watches
  *     bench nine         the same for the nine calls whose cycles are estimated
  *     bench times        measures nanoseconds for each call, and prints a line for each
  *     bench same COUNT   holds same.c to the library on so many random packets
@@ -24,43 +24,30 @@ enum { LONGEST = 60000, PIECE = 63, BATCH = 64, ROUNDS = 3000 };
 static const char *const names[OPERATIONS] = {
     "field", "chain", "judge", "mend", "lower lifetime", "set address", "set stretch",
 };
-static const struct way ours = {
+static const struct way library = {
     "ours", hifrostum_field, hifrostum_sum_chain, hifrostum_judge, hifrostum_mend, hifrostum_lower_lifetime,
     hifrostum_set_address, hifrostum_set_stretch,
 };
+static const struct way *const ours = &library;
 
-/* All ways, and by which compiler; `same` is how many of the last are same.c's. */
-static struct {
+/* All ways, the library first, and by which compiler. */
+static const struct {
     const char *by;
-    const struct way *way;
-} ways[15] = {{"", &ours}};
-static size_t ways_len = 1, same;
-
-static void enter(const char *by, const struct way *way)
-{
-    ways[ways_len].by = by;
-    ways[ways_len++].way = way;
-}
-
-static void enter_all(void)
-{
+    const struct way *const *way;
+} ways[] = {
+    {"", &ours},
 #ifndef ONLY_OURS
-    for (size_t i = 0; i < PLAIN_WAYS; i++)
-        enter("cc: ", plain_cc[i]);
+    {"cc: ", plain_cc},           {"cc: ", plain_cc + 1},       {"cc: ", plain_cc + 2},
+    {"cc: ", plain_cc + 3},       {"cc: ", &c_cc},              {"cc: ", &adc_cc},
+    {"cc: ", &sse2_cc},
 #ifdef CLANG
-    for (size_t i = 0; i < PLAIN_WAYS; i++)
-        enter("clang: ", plain_clang[i]);
-    enter("clang: ", &c_clang);
-    enter("clang: ", &adc_clang);
-    enter("clang: ", &sse2_clang);
-    same += 3;
+    {"clang: ", plain_clang},     {"clang: ", plain_clang + 1}, {"clang: ", plain_clang + 2},
+    {"clang: ", plain_clang + 3}, {"clang: ", &c_clang},        {"clang: ", &adc_clang},
+    {"clang: ", &sse2_clang},
 #endif
-    enter("cc: ", &c_cc);
-    enter("cc: ", &adc_cc);
-    enter("cc: ", &sse2_cc);
-    same += 3;
 #endif
-}
+};
+enum { WAYS = sizeof ways / sizeof *ways };
 
 static const size_t lengths[] = {40, 64, 128, 576, 1500}, lifetimes[] = {64, 128, 576, 1500, 9000, 60000};
 static const uint8_t new[16] = {0xFD, 0x12, 0x34, 0x56, 0x78, 0x9A, 0xBC, 0xDE, 0xF0, 1, 2, 3, 4, 5, 6, 7};
@@ -159,7 +146,7 @@ static void compare(const struct way *way, enum operation op, const uint8_t *pac
     static uint8_t want[LONGEST], got[LONGEST];
     memcpy(want, packet, len);
     memcpy(got, packet, len);
-    if (call(&ours, op, want, len) != call(way, op, got, len) || memcmp(want, got, len) != 0) {
+    if (call(ours, op, want, len) != call(way, op, got, len) || memcmp(want, got, len) != 0) {
         fprintf(stderr, "bench: %s: %s differs at %zu bytes\n", names[op], way->name, len);
         exit(1);
     }
@@ -187,7 +174,7 @@ static double now(void)
 static void print_row(struct row r, size_t w)
 {
     printf("%s | %s %zu | %s%s", names[r.op], r.op <= CHAIN ? "bytes" : r.family == 4 ? "IPv4" : "IPv6", r.len,
-           ways[w].by, ways[w].way->name);
+           ways[w].by, (*ways[w].way)->name);
 }
 
 /* The best of many batches for each way, all ways taking turns. Each batch begins with the good packet, and none of its
@@ -195,43 +182,43 @@ static void print_row(struct row r, size_t w)
 static void timed(struct row r, const uint8_t *packet)
 {
     static uint8_t copy[LONGEST];
-    double best[sizeof ways / sizeof *ways] = {0};
+    double best[WAYS] = {0};
     for (int round = 0; round < ROUNDS; round++)
-        for (size_t w = 0; w < ways_len; w++) {
-            if (!has(ways[w].way, r.op))
+        for (size_t w = 0; w < WAYS; w++) {
+            if (!has(*ways[w].way, r.op))
                 continue;
             memcpy(copy, packet, r.len);
             unsigned answers = 0;
             double start = now();
             for (int i = 0; i < BATCH; i++)
-                answers |= call(ways[w].way, r.op, copy, r.len);
+                answers |= call(*ways[w].way, r.op, copy, r.len);
             double each = (now() - start) / BATCH;
             if (best[w] == 0 || each < best[w])
                 best[w] = each;
             if (r.op > CHAIN && answers != 0) {
-                fprintf(stderr, "bench: %s: %s refused a good packet\n", names[r.op], ways[w].way->name);
+                fprintf(stderr, "bench: %s: %s refused a good packet\n", names[r.op], (*ways[w].way)->name);
                 exit(1);
             }
         }
-    for (size_t w = 0; w < ways_len; w++)
-        if (has(ways[w].way, r.op)) {
+    for (size_t w = 0; w < WAYS; w++)
+        if (has(*ways[w].way, r.op)) {
             print_row(r, w);
             printf(" | %.1f\n", best[w]);
         }
 }
 
-/* Measures one operation on one packet, done in each way: by counted calls, or by the clock. */
-static void measure(int calls, struct row r)
+/* Measures one operation on one packet, done in each of the first ways: by counted calls, or by the clock. */
+static void measure(int calls, struct row r, size_t first)
 {
     static uint8_t packet[LONGEST];
     build(packet, r.family, r.len);
     cut(r.len);
-    for (size_t w = 0; w < ways_len; w++) {
-        if (!has(ways[w].way, r.op))
+    for (size_t w = 0; w < first; w++) {
+        if (!has(*ways[w].way, r.op))
             continue;
-        compare(ways[w].way, r.op, packet, r.len);
+        compare(*ways[w].way, r.op, packet, r.len);
         if (calls) {
-            counted(ways[w].way, r.op, packet, r.len);
+            counted(*ways[w].way, r.op, packet, r.len);
             print_row(r, w);
             printf("\n");
         }
@@ -247,15 +234,19 @@ static void measure_all(int calls)
             for (size_t i = 0; i < sizeof lengths / sizeof *lengths; i++)
                 /* a sum has no family, and 40 bytes hold no UDP over IPv6 */
                 if (family == 4 || (op > CHAIN && lengths[i] != 40))
-                    measure(calls, (struct row){op, family, lengths[i]});
+                    measure(calls, (struct row){op, family, lengths[i]}, WAYS);
 }
 
 #ifndef ONLY_OURS
+/* same.c's are the ways that judge and have no chain. */
 static void hold_same(unsigned long packets)
 {
-    unsigned long calls = 0;
-    for (size_t w = ways_len - same; w < ways_len; w++)
-        calls += differ(&ours, ways[w].by, ways[w].way, w, packets / same);
+    unsigned long calls = 0, same = 0;
+    for (size_t w = 0; w < WAYS; w++)
+        same += has(*ways[w].way, JUDGE) && !has(*ways[w].way, CHAIN);
+    for (size_t w = 0; w < WAYS; w++)
+        if (has(*ways[w].way, JUDGE) && !has(*ways[w].way, CHAIN))
+            calls += differ(ours, ways[w].by, *ways[w].way, w, packets / same);
     printf("same.c does what the library does: %lu calls on %lu random packets\n", calls, packets / same * same);
 }
 #endif
@@ -263,19 +254,17 @@ static void hold_same(unsigned long packets)
 int main(int argc, char **argv)
 {
     const char *what = argc >= 2 ? argv[1] : "";
-    enter_all();
     if (strcmp(what, "calls") == 0 || strcmp(what, "times") == 0)
         measure_all(what[0] == 'c');
-    else if (strcmp(what, "lengths") == 0) {
-        ways_len = 1;
+    else if (strcmp(what, "lengths") == 0)
         for (size_t i = 0; i < sizeof lifetimes / sizeof *lifetimes; i++)
-            measure(1, (struct row){LOWER, 4, lifetimes[i]});
-    } else if (strcmp(what, "ten") == 0)
+            measure(1, (struct row){LOWER, 4, lifetimes[i]}, 1);
+    else if (strcmp(what, "ten") == 0)
         for (size_t i = 0; i < sizeof ten / sizeof *ten; i++)
-            measure(1, ten[i]);
+            measure(1, ten[i], 1);
     else if (strcmp(what, "nine") == 0)
         for (size_t i = 0; i < sizeof nine / sizeof *nine; i++)
-            measure(1, nine[i]);
+            measure(1, nine[i], WAYS);
 #ifndef ONLY_OURS
     else if (strcmp(what, "same") == 0 && argc == 3)
         hold_same(strtoul(argv[2], NULL, 10));

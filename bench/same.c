@@ -314,4 +314,7 @@ static uint8_t stretch(uint8_t *packet, size_t len, size_t place, const uint8_t 
     return layout(stretched, 0, packet, len, (struct ask){place, bytes_len, bytes});
 }
 
-const struct way BY = {KIND == PLAIN ? "C" : KIND == CHAINS ? "adc" : "SSE2", field, 0, judge, mend, lower, address, stretch};
+static const struct way way = {
+    KIND == PLAIN ? "C" : KIND == CHAINS ? "adc" : "SSE2", field, 0, judge, mend, lower, address, stretch,
+};
+const struct way *const BY = &way;

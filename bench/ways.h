@@ -22,7 +22,7 @@ enum { PLAIN_WAYS = 4 };
 extern const struct way *const plain_cc[PLAIN_WAYS], *const plain_clang[PLAIN_WAYS];
 
 /* same.c, by both and with each kind of its sums; it has no chain. */
-extern const struct way c_cc, adc_cc, sse2_cc, c_clang, adc_clang, sse2_clang;
+extern const struct way *const c_cc, *const adc_cc, *const sse2_cc, *const c_clang, *const adc_clang, *const sse2_clang;
 
 /* differ.c: stops the program at the first difference between two ways, in answers or in bytes, on packets from a
  * seeded generator. Answers how many calls were compared. */
