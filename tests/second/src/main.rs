@@ -1,7 +1,8 @@
-// The command line: make cases, answer them, make fresh random ones, make updates with their answers, and hold given
-// answers to our own.
+// The command line: make cases, answer them, make fresh random ones, make updates and byte strings with their answers,
+// and hold given answers to our own.
 
 use second::answer::{Case, Desk, Next, BAD_CASE, GIVEN, OPERATIONS};
+use second::blocks::write_blocks;
 use second::cases;
 use second::updates::write_records;
 use std::env;
@@ -10,7 +11,7 @@ use std::io::{self, stdin, stdout, BufRead, BufReader, BufWriter, Write};
 use std::process::ExitCode;
 
 /// Each command: its name, what follows it, and its help.
-const COMMANDS: [(&str, &[&str], &str); 5] = [
+const COMMANDS: [(&str, &[&str], &str); 6] = [
     (
         "cases",
         &["SEED"],
@@ -30,6 +31,12 @@ const COMMANDS: [(&str, &[&str], &str); 5] = [
         "Writes updates to standard output, as records of four big-endian 16-bit words: field, old fold, new fold\n\
          and answer. First every three of 0000, 0001, 7FFF, 8000, FFFE and FFFF, then COUNT random triples. The same\n\
          seed and count give the same records.",
+    ),
+    (
+        "blocks",
+        &["SEED"],
+        "Writes byte strings to standard output, as records of a big-endian 32-bit length, the bytes, and their field:\n\
+         each length from 0 to 300 and some longer ones, of FF, of zeros, of both, and of random bytes.",
     ),
     (
         "compare",
@@ -88,6 +95,7 @@ fn run(words: &[&str]) -> Result<(), Failure> {
         "answers" => write_answers(),
         "fuzz" => Ok(cases::fuzz(number(rest[0])?, number(rest[1])?, &mut BufWriter::new(stdout().lock()))?),
         "updates" => Ok(write_records(number(rest[0])?, number(rest[1])?, &mut BufWriter::new(stdout().lock()))?),
+        "blocks" => Ok(write_blocks(number(rest[0])?, &mut BufWriter::new(stdout().lock()))?),
         _ => compare(rest[0], rest[1]),
     }
 }
