@@ -1,7 +1,7 @@
 #!/bin/sh
-# Builds and runs what links the archive: the host test, the same over a shared object and from C++, updates beside the
-# second implementation's, lengths over 2^32, and the hut; looks at the archive's names; and tries the program and the
-# script that runs it.
+# Builds and runs what links the archive: the host test, the same over a shared object and from C++, updates and sums
+# beside the second implementation's, corners, lengths over 2^32, and the hut; looks at the archive's names; and tries
+# the program and the script that runs it.
 # HIFROSTUM_SKIP_C=1 leaves all of it out. JUDGE_CAPTURE names another program than target/bin/judge_capture.
 set -eu
 cd "$(dirname "$0")/.."
@@ -47,6 +47,8 @@ sed -n '/^ \*     static uint16_t fold_at/,/^ \* A UDP/s/^ \*     //p' include/h
     $x86 cc $flags tests/host/host.c "$archive" -o $out/host
     $x86 cc $flags tests/host/lengths.c "$archive" -o $out/lengths
     $x86 cc $flags tests/host/updates.c "$archive" -o $out/updates
+    $x86 cc $flags tests/host/blocks.c "$archive" -o $out/blocks
+    $x86 cc $flags tests/host/corners.c "$archive" -o $out/corners
     $x86 cc $flags examples/hut/hut.c "$archive" -o $out/hut
     $x86 cc $flags $out/readme.c "$archive" -o $out/readme
     $x86 cc -shared -Wl,-z,text,-z,defs,--whole-archive "$archive" -Wl,--no-whole-archive -o $out/libhifrostum.so
@@ -80,6 +82,19 @@ for wrong in none cut other; do
     fi
 done
 $x86 run $out/updates <$out/triples
+# sums of every length at every address, beside the second implementation's; a cut block or another field must not pass
+target/second/release/second blocks 1 >$out/strings
+: >$out/strings-none
+head -c 1727 $out/strings >$out/strings-cut
+{ printf '\000\000\000\000\377\376' && tail -c +7 $out/strings; } >$out/strings-other
+for wrong in none cut other; do
+    if $x86 run $out/blocks <$out/strings-$wrong >$out/said; then
+        fail "blocks that are wrong pass ($wrong): $(cat $out/said)"
+    fi
+done
+$x86 run $out/blocks <$out/strings
+$x86 run $out/corners >$out/said || fail "corners: $(cat $out/said)"
+tail -n 1 $out/said
 $x86 run $out/host-shared >$out/said || fail "from a shared object: $(cat $out/said)"
 sed -n '$s/^host:/& from a shared object:/p' $out/said
 $x86 run $out/host

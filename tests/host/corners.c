@@ -1,0 +1,626 @@
+/* Packets that meet the rare branches by design: totals that are multiples of 65535, fields at 0000, FFFF and beside
+ * them, changes of 0, 1 and 65534; and messages of every length at every address modulo 32.
+ *
+ * What is wanted comes from a model in this file: the rules paper's formulas over the covered block, which is laid out
+ * whole, pseudo-header first. It never asks the library. After each call the verdict and every byte are compared.
+ */
+#include <stdio.h>
+#include <string.h>
+
+#include "hifrostum.h"
+
+enum { ICMP = 1, TCP = 6, UDP = 17, ICMP6 = 58, ROOM = 512, GUARD = 64 };
+
+static const struct kind {
+    unsigned family, protocol, fixed, field;
+} kinds[] = {{4, ICMP, 8, 2}, {4, TCP, 20, 16}, {4, UDP, 8, 6}, {6, TCP, 20, 16}, {6, UDP, 8, 6}, {6, ICMP6, 4, 2}};
+enum { KINDS = sizeof kinds / sizeof *kinds };
+
+static const unsigned corners[] = {0, 1, 2, 0x00FF, 0x0100, 0x0101, 0x7FFF, 0x8000, 0xFEFE, 0xFEFF, 0xFF00, 0xFFFD, 0xFFFE, 0xFFFF};
+enum { CORNERS = sizeof corners / sizeof *corners };
+
+static unsigned long checks, failed, group_checks;
+
+/* Rare branches, and how often the model took them in a compared call, for each kind of packet. */
+enum branch {
+    FRESH_ZERO,     /* a message's fresh field is 0000, or UDP's FFFF instead */
+    FRESH_BLANK,    /* it is FFFF, since there are only zeros */
+    PASSES_ZERO,    /* a message passes with the field 0000 */
+    PASSES_FULL,    /* and with FFFF */
+    TOTAL_ZERO,     /* a message doesn't pass, since there are only zeros, the field too */
+    HEADER_ZERO,    /* the header passes with the field 0000 */
+    HEADER_FULL,    /* and with FFFF */
+    UPDATE_ZERO,    /* a message's update comes to 0000, or UDP's to FFFF instead */
+    UPDATE_FULL,    /* and does so where equation 3 answers FFFF */
+    UPDATED_HEADER, /* a header's update comes to 0000 */
+    FULL_HEADER,    /* and does so where equation 3 answers FFFF */
+    KEPT_SILENT,    /* a UDP field 0000 stays */
+    BLANK_BEFORE,   /* ICMP is blank before an edit */
+    BLANK_AFTER,    /* or would be after it */
+    BRANCHES
+};
+static unsigned long met[KINDS][BRANCHES];
+static int comparing;
+
+/* Numbers */
+
+static uint32_t state = 1;
+
+static unsigned any(unsigned below)
+{
+    state = state * 1664525 + 1013904223;
+    return (state >> 8) % below;
+}
+
+static unsigned word(const uint8_t *at)
+{
+    return 256u * at[0] + at[1];
+}
+
+static void put(uint8_t *at, unsigned long value)
+{
+    at[0] = (uint8_t)(value >> 8);
+    at[1] = (uint8_t)value;
+}
+
+/* The model: sums */
+
+static unsigned long total(const uint8_t *bytes, size_t len)
+{
+    unsigned long sum = 0;
+    for (size_t i = 0; i < len; i++)
+        sum += i % 2 ? bytes[i] : 256ul * bytes[i];
+    return sum;
+}
+
+static unsigned fold(unsigned long sum)
+{
+    return sum == 0 ? 0 : (unsigned)(1 + (sum - 1) % 65535);
+}
+
+/* RFC 1624's equation 3. */
+static unsigned equation3(unsigned field, unsigned old, unsigned new)
+{
+    return 65535 - fold(65535ul - field + 65535ul - old + new);
+}
+
+/* A packet whose shape is right. Its kind says where things stand. */
+struct packet {
+    const struct kind *kind;
+    size_t header, len;
+    uint8_t bytes[ROOM];
+};
+
+static void meet(const struct packet *p, enum branch branch, int taken)
+{
+    met[p->kind - kinds][branch] += comparing && taken;
+}
+
+static size_t message_len(const struct packet *p)
+{
+    return p->len - p->header;
+}
+
+static uint8_t *field_of(struct packet *p)
+{
+    return p->bytes + p->header + p->kind->field;
+}
+
+static size_t body_of(const struct packet *p)
+{
+    return p->header + (p->kind->protocol == TCP ? p->bytes[p->header + 12] / 16 * 4u : p->kind->fixed);
+}
+
+/* Lays out the covered block and answers its length. */
+static size_t block(const struct packet *p, uint8_t *out)
+{
+    size_t size = 0, len = message_len(p);
+    if (p->kind->family == 4 && p->kind->protocol != ICMP) {
+        memcpy(out, p->bytes + 12, 8);
+        out[8] = 0;
+        out[9] = (uint8_t)p->kind->protocol;
+        put(out + 10, len);
+        size = 12;
+    } else if (p->kind->family == 6) {
+        memcpy(out, p->bytes + 8, 32);
+        memset(out + 32, 0, 8);
+        put(out + 34, len);
+        out[39] = (uint8_t)p->kind->protocol;
+        size = 40;
+    }
+    memcpy(out + size, p->bytes + p->header, len);
+    return size + len;
+}
+
+static unsigned long message_total(const struct packet *p)
+{
+    uint8_t covered[ROOM + 40];
+    return total(covered, block(p, covered));
+}
+
+static int passes(unsigned long sum)
+{
+    return sum > 0 && sum % 65535 == 0;
+}
+
+static int silent(struct packet *p)
+{
+    return p->kind->protocol == UDP && word(field_of(p)) == 0;
+}
+
+/* The model: calls. Each changes the packet as the library must and answers the verdict. */
+
+static unsigned judge(struct packet *p)
+{
+    if (p->kind->family == 4) {
+        if (!passes(total(p->bytes, p->header)))
+            return 5;
+        meet(p, HEADER_ZERO, word(p->bytes + 10) == 0);
+        meet(p, HEADER_FULL, word(p->bytes + 10) == 0xFFFF);
+    }
+    if (silent(p))
+        return p->kind->family == 4 ? 1 : 8;
+    meet(p, TOTAL_ZERO, message_total(p) == 0);
+    if (!passes(message_total(p)))
+        return 9;
+    meet(p, PASSES_ZERO, word(field_of(p)) == 0);
+    meet(p, PASSES_FULL, word(field_of(p)) == 0xFFFF);
+    return 0;
+}
+
+static unsigned mend(struct packet *p)
+{
+    if (p->kind->family == 4) {
+        put(p->bytes + 10, 0);
+        put(p->bytes + 10, 65535 - fold(total(p->bytes, p->header)));
+        if (silent(p))
+            return 0;
+    }
+    put(field_of(p), 0);
+    unsigned fresh = 65535 - fold(message_total(p));
+    meet(p, FRESH_ZERO, fresh == 0);
+    meet(p, FRESH_BLANK, fresh == 0xFFFF);
+    put(field_of(p), p->kind->protocol == UDP && fresh == 0 ? 0xFFFF : fresh);
+    return 0;
+}
+
+/* The fold of bytes that begin at a place of a block. */
+static unsigned fold_at(size_t place, const uint8_t *bytes, size_t len)
+{
+    uint8_t shifted[ROOM + 1] = {0};
+    memcpy(shifted + place % 2, bytes, len);
+    return fold(total(shifted, len + place % 2));
+}
+
+/* A field after bytes at a place of its block were exchanged for others: 0000 where equation 3 answers FFFF. */
+static unsigned renewed(const struct packet *p, int header, unsigned field, size_t place, const uint8_t *old,
+                        const uint8_t *new, size_t len)
+{
+    unsigned answer = equation3(field, fold_at(place, old, len), fold_at(place, new, len));
+    meet(p, header ? FULL_HEADER : UPDATE_FULL, answer == 0xFFFF);
+    answer = answer == 0xFFFF ? 0 : answer;
+    meet(p, header ? UPDATED_HEADER : UPDATE_ZERO, answer == 0);
+    return answer;
+}
+
+static void renew_header(struct packet *p, size_t place, const uint8_t *old, const uint8_t *new, size_t len)
+{
+    if (p->kind->family == 4)
+        put(p->bytes + 10, renewed(p, 1, word(p->bytes + 10), place, old, new, len));
+}
+
+static void renew_message(struct packet *p, size_t place, const uint8_t *old, const uint8_t *new, size_t len)
+{
+    meet(p, KEPT_SILENT, silent(p));
+    if (silent(p))
+        return;
+    unsigned answer = renewed(p, 0, word(field_of(p)), place, old, new, len);
+    put(field_of(p), p->kind->protocol == UDP && answer == 0 ? 0xFFFF : answer);
+}
+
+static unsigned lower(struct packet *p)
+{
+    uint8_t *lifetime = p->bytes + (p->kind->family == 4 ? 8 : 7), less = (uint8_t)(*lifetime - 1);
+    if (p->kind->family == 6 && silent(p))
+        return 8;
+    if (*lifetime < 2)
+        return 11;
+    renew_header(p, 8, lifetime, &less, 1);
+    *lifetime = less;
+    return 0;
+}
+
+static unsigned set_address(struct packet *p, unsigned side, const uint8_t *new)
+{
+    size_t size = p->kind->family == 4 ? 4 : 16;
+    uint8_t *at = p->bytes + (p->kind->family == 4 ? 12 : 8) + side * size;
+    if (p->kind->family == 6 && silent(p))
+        return 8;
+    renew_header(p, 12, at, new, size);
+    if (p->kind->protocol != ICMP)
+        renew_message(p, 0, at, new, size);
+    memcpy(at, new, size);
+    return 0;
+}
+
+/* Whether ICMP's message is all zeros, its field aside. */
+static int blank(const struct packet *p)
+{
+    unsigned long sum = 0;
+    for (size_t i = p->header; i < p->len; i++)
+        if (i - p->header < 2 || i - p->header > 3)
+            sum += p->bytes[i];
+    return p->kind->protocol == ICMP && sum == 0;
+}
+
+static unsigned set_stretch(struct packet *p, size_t place, const uint8_t *new, size_t len)
+{
+    uint8_t *at = p->bytes + body_of(p) + place;
+    struct packet after = *p;
+    if (p->kind->family == 6 && silent(p))
+        return 8;
+    if (place + len > p->len - body_of(p))
+        return 10;
+    if (len == 0)
+        return 0;
+    memcpy(after.bytes + body_of(p) + place, new, len);
+    meet(p, BLANK_BEFORE, blank(p) && !blank(&after));
+    meet(p, BLANK_AFTER, blank(&after) && !blank(p));
+    if (blank(p) || blank(&after))
+        return 12;
+    renew_message(p, (size_t)(at - p->bytes) - p->header, at, new, len);
+    memcpy(at, new, len);
+    return 0;
+}
+
+/* Comparing. The packet lies at an address that is chosen, with guard bytes around. */
+
+static uint8_t room[GUARD + 64 + ROOM + GUARD] __attribute__((aligned(64)));
+
+enum call { JUDGE, MEND, LOWER, ADDRESS, STRETCH };
+static const char *const names[] = {"judge", "mend", "lower lifetime", "set address", "set stretch"};
+
+static void hold(enum call call, const struct packet *p, size_t address, size_t number, const uint8_t *new, size_t len)
+{
+    struct packet want = *p;
+    uint8_t *at = room + GUARD + address;
+    int kept = 1;
+    memset(room, 0xA5, sizeof room);
+    memcpy(at, p->bytes, p->len);
+    comparing = 1;
+    unsigned wanted = call == JUDGE     ? judge(&want)
+                      : call == MEND    ? mend(&want)
+                      : call == LOWER   ? lower(&want)
+                      : call == ADDRESS ? set_address(&want, (unsigned)number, new)
+                                        : set_stretch(&want, number, new, len);
+    comparing = 0;
+    unsigned got = call == JUDGE     ? hifrostum_judge(at, p->len)
+                   : call == MEND    ? hifrostum_mend(at, p->len)
+                   : call == LOWER   ? hifrostum_lower_lifetime(at, p->len)
+                   : call == ADDRESS ? hifrostum_set_address(at, p->len, (uint32_t)number, new, len)
+                                     : hifrostum_set_stretch(at, p->len, number, new, len);
+    for (size_t i = 0; i < sizeof room; i++)
+        kept &= (i >= GUARD + address && i < GUARD + address + p->len) || room[i] == 0xA5;
+    checks++;
+    if (got == wanted && memcmp(at, want.bytes, p->len) == 0 && kept)
+        return;
+    if (failed++ < 20)
+        printf("corners: failed: %s, IPv%u, protocol %u, message of %zu bytes: wanted %u with %04X and %04X, got %u with %04X and %04X%s\n",
+               names[call], p->kind->family, p->kind->protocol, message_len(p), wanted, word(want.bytes + 10),
+               word(field_of(&want)), got, word(at + 10), word(at + p->header + p->kind->field),
+               kept ? "" : "; a guard byte changed");
+}
+
+static void group(const char *name)
+{
+    printf("corners: %s: %lu checks\n", name, checks - group_checks);
+    group_checks = checks;
+}
+
+/* Building */
+
+/* Sets what a message's shape depends on: TCP's data offset, UDP's length. */
+static void shape(struct packet *p)
+{
+    if (p->kind->protocol == TCP)
+        p->bytes[p->header + 12] = 0x50;
+    if (p->kind->protocol == UDP)
+        put(p->bytes + p->header + 4, message_len(p));
+}
+
+/* Sets both fields fresh, UDP's 0000 too. */
+static void freshen(struct packet *p)
+{
+    put(field_of(p), 1);
+    mend(p);
+}
+
+/* A packet of a kind with so many bytes of message, random, with both fields fresh. */
+static struct packet build(const struct kind *kind, size_t options, size_t message)
+{
+    struct packet p = {.kind = kind, .header = kind->family == 4 ? 20 + options : 40};
+    p.len = p.header + message;
+    for (size_t i = 0; i < p.len; i++)
+        p.bytes[i] = (uint8_t)any(256);
+    if (kind->family == 4) {
+        p.bytes[0] = (uint8_t)(0x40 + p.header / 4);
+        put(p.bytes + 2, p.len);
+        put(p.bytes + 6, 0x4000);
+        p.bytes[9] = (uint8_t)kind->protocol;
+    } else {
+        p.bytes[0] = 0x60;
+        put(p.bytes + 4, message);
+        p.bytes[6] = (uint8_t)kind->protocol;
+    }
+    p.bytes[kind->family == 4 ? 8 : 7] = 64;
+    shape(&p);
+    freshen(&p);
+    return p;
+}
+
+/* Changes a word so that a total becomes a multiple of 65535. */
+static void balance(uint8_t *at, unsigned long sum)
+{
+    put(at, (word(at) + 65535 - sum % 65535) % 65535);
+}
+
+/* Makes the fresh message field 0000 (UDP's FFFF): the block passes with its field read as 0000. An address is
+ * changed, or where none is covered the message's second word from the end of its fixed header. */
+static void balance_message(struct packet *p)
+{
+    put(field_of(p), 0);
+    balance(p->kind->protocol == ICMP ? p->bytes + p->header + 4 : p->bytes + (p->kind->family == 4 ? 16 : 38),
+            message_total(p));
+}
+
+static void balance_header(struct packet *p)
+{
+    put(p->bytes + 10, 0);
+    balance(p->bytes + 4, total(p->bytes, p->header));
+}
+
+/* Groups */
+
+/* Messages of every length up to 300 at every address modulo 32: good, with one bit wrong, and mended. */
+static void lengths(void)
+{
+    for (size_t k = 0; k < KINDS; k++)
+        for (size_t len = kinds[k].fixed; len <= 300; len++)
+            for (size_t address = 0; address < 32; address++) {
+                struct packet p = build(&kinds[k], len % 5 == 0 ? 4 * any(11) : 0, len);
+                if (address % 4 == 3) {
+                    memset(p.bytes + body_of(&p), address % 8 == 3 ? 0xFF : 0, p.len - body_of(&p));
+                    freshen(&p);
+                }
+                hold(JUDGE, &p, address, 0, NULL, 0);
+                /* but none that the shape depends on */
+                p.bytes[p.header + any((unsigned)len)] ^= (uint8_t)(1 << any(8));
+                shape(&p);
+                hold(JUDGE, &p, address, 0, NULL, 0);
+                hold(MEND, &p, address, 0, NULL, 0);
+            }
+    group("messages of every length");
+}
+
+/* Totals that are multiples of 65535, under every corner field. */
+static void multiples(void)
+{
+    static const size_t sizes[] = {0, 1, 2, 7, 8, 9, 31, 32, 33, 63, 64, 100, 119, 120, 121, 127, 128, 129, 255, 256, 280};
+    for (size_t k = 0; k < KINDS; k++)
+        for (size_t s = 0; s < sizeof sizes / sizeof *sizes; s++)
+            for (size_t c = 0; c < CORNERS; c++) {
+                struct packet p = build(&kinds[k], s % 3 == 2 ? 40 : 0, kinds[k].fixed + sizes[s]);
+                balance_message(&p);
+                put(field_of(&p), corners[c]);
+                if (kinds[k].family == 4) {
+                    put(p.bytes + 10, 0);
+                    put(p.bytes + 10, 65535 - fold(total(p.bytes, p.header)));
+                }
+                hold(JUDGE, &p, s, 0, NULL, 0);
+                hold(MEND, &p, s, 0, NULL, 0);
+                if (kinds[k].family == 4) {
+                    balance_header(&p);
+                    put(p.bytes + 10, corners[(c + s) % CORNERS]);
+                    hold(JUDGE, &p, s, 0, NULL, 0);
+                    hold(MEND, &p, s, 0, NULL, 0);
+                    put(p.bytes + 10, c % 2 ? 0 : 0xFFFF);
+                    hold(JUDGE, &p, s, 0, NULL, 0);
+                }
+            }
+    group("totals that are multiples of 65535");
+}
+
+/* ICMP of zeros alone, and of zeros with words of FFFF, or with one byte: only zeros themselves have a total of 0. */
+static void blanks(void)
+{
+    static const uint8_t one = 1;
+    uint8_t zeros[ROOM] = {0};
+    for (size_t len = 8; len <= 300; len++)
+        for (size_t c = 0; c < CORNERS; c++) {
+            struct packet p = build(&kinds[0], 0, len), q;
+            memset(p.bytes + p.header, 0, len);
+            put(field_of(&p), corners[c]);
+            hold(JUDGE, &p, len % 32, 0, NULL, 0);
+            hold(MEND, &p, len % 32, 0, NULL, 0);
+            hold(STRETCH, &p, len % 32, 0, zeros, len - 8);
+            if (len > 8)
+                hold(STRETCH, &p, len % 32, any((unsigned)len - 8), &one, 1);
+            q = p;
+            size_t ones = 2 * any((unsigned)len / 2);
+            put(q.bytes + q.header + (ones == 2 ? 4 : ones), 0xFFFF);
+            hold(JUDGE, &q, len % 32, 0, NULL, 0);
+            hold(MEND, &q, len % 32, 0, NULL, 0);
+            size_t at = any((unsigned)len - 4) + 4;
+            p.bytes[p.header + at] = (uint8_t)(1 + any(255));
+            hold(JUDGE, &p, len % 32, 0, NULL, 0);
+            hold(MEND, &p, len % 32, 0, NULL, 0);
+            /* the last byte that isn't zero goes, or stays */
+            if (at >= 8) {
+                hold(STRETCH, &p, len % 32, at - 8, zeros, 1);
+                hold(STRETCH, &p, len % 32, 0, zeros, len - 8);
+                hold(STRETCH, &p, len % 32, at - 8, &one, 1);
+            } else
+                hold(STRETCH, &p, len % 32, 0, zeros, len - 8);
+        }
+    group("blank and nearly blank ICMP");
+}
+
+/* The lifetime under every header field that there is, and every lifetime. */
+static void lifetimes(void)
+{
+    for (size_t k = 0; k < KINDS; k++) {
+        struct packet p = build(&kinds[k], 0, kinds[k].fixed + 4);
+        for (unsigned field = 0; field < 65536 && kinds[k].family == 4; field += k == 0 ? 1 : 251) {
+            put(p.bytes + 10, field);
+            hold(LOWER, &p, 0, 0, NULL, 0);
+        }
+        for (unsigned c = 0; c < CORNERS; c++)
+            for (unsigned lifetime = 0; lifetime < 256; lifetime++) {
+                put(p.bytes + 10, corners[c]);
+                put(field_of(&p), corners[(c + lifetime) % CORNERS]);
+                p.bytes[kinds[k].family == 4 ? 8 : 7] = (uint8_t)lifetime;
+                hold(LOWER, &p, 1, 0, NULL, 0);
+            }
+    }
+    group("lifetimes");
+}
+
+/* Pairs of old and new words whose difference is a corner. */
+static const struct {
+    unsigned old, new;
+} changes[] = {
+    {0x1234, 0x1234}, {0x1234, 0x1235}, {0x1235, 0x1234}, {0, 0xFFFF},      {0xFFFF, 0},      {0xFFFF, 0xFFFF}, {0, 0},
+    {0, 1},           {1, 0},           {0xFFFE, 0xFFFF}, {0xFFFF, 0xFFFE}, {0xFFFF, 1},      {1, 0xFFFF},      {0, 0xFFFE},
+    {0xFFFE, 0},      {0x0100, 0},      {0, 0x0100},      {0x00FF, 0xFF00}, {0x7FFF, 0x8000}, {0x8000, 0x7FFF},
+};
+enum { CHANGES = sizeof changes / sizeof *changes };
+
+/* Fills with a word and random ones, or with the word alone. */
+static void fill(uint8_t *at, size_t len, unsigned value, const uint8_t *common)
+{
+    for (size_t i = 0; i < len; i++)
+        at[i] = common ? common[i] : (uint8_t)(i % 2 ? value : value >> 8);
+    if (common)
+        put(at + len - 2, value);
+}
+
+/* Addresses whose words change by corners, under corner fields. With one word changed and the others kept, or with all
+ * words alike. */
+static void addresses(void)
+{
+    uint8_t common[16], new[16];
+    for (size_t k = 0; k < KINDS; k++)
+        for (size_t c = 0; c < CHANGES; c++)
+            for (size_t header = 0; header < CORNERS; header++)
+                for (size_t message = 0; message < CORNERS; message++) {
+                    size_t size = kinds[k].family == 4 ? 4 : 16, side = (header + message) % 2;
+                    struct packet p = build(&kinds[k], 0, kinds[k].fixed + 3);
+                    uint8_t *at = p.bytes + (size == 4 ? 12 : 8) + side * size;
+                    for (size_t i = 0; i < size; i++)
+                        common[i] = (uint8_t)any(256);
+                    const uint8_t *shared = message % 3 ? common : NULL;
+                    fill(at, size, changes[c].old, shared);
+                    fill(new, size, changes[c].new, shared);
+                    if (size == 4)
+                        put(p.bytes + 10, corners[header]);
+                    put(field_of(&p), corners[message]);
+                    hold(ADDRESS, &p, c, side, new, size);
+                    /* the same on a good packet, whose fields must stay fresh */
+                    freshen(&p);
+                    hold(ADDRESS, &p, c, side, new, size);
+                }
+    group("addresses");
+}
+
+/* Stretches at even and odd places whose bytes change by corners, under corner fields: two bytes, one, and more with the
+ * rest kept or all alike. */
+static void stretches(void)
+{
+    uint8_t new[ROOM];
+    for (size_t k = 0; k < KINDS; k++)
+        for (size_t c = 0; c < CHANGES; c++)
+            for (size_t message = 0; message < CORNERS; message++)
+                for (size_t len = 1; len <= 20; len++)
+                    for (size_t place = 0; place < 4; place++) {
+                        struct packet p = build(&kinds[k], 0, kinds[k].fixed + 24);
+                        uint8_t *at = p.bytes + body_of(&p) + place;
+                        for (size_t i = 0; i < len; i++) {
+                            at[i] = (uint8_t)(i % 2 ? changes[c].old : changes[c].old >> 8);
+                            new[i] = (uint8_t)(i % 2 ? changes[c].new : changes[c].new >> 8);
+                            /* from the third byte on half of the cases change nothing */
+                            if (i >= 2 && message % 2)
+                                new[i] = at[i];
+                        }
+                        if (message % 3 == 2) {
+                            freshen(&p);
+                            hold(STRETCH, &p, len, place, new, len);
+                        }
+                        put(field_of(&p), corners[message]);
+                        hold(STRETCH, &p, len, place, new, len);
+                    }
+    group("stretches");
+}
+
+/* Edits that make the sum under a good field a multiple of 65535: the field comes to 0000, UDP's to FFFF; and back. */
+static void to_multiples(void)
+{
+    for (size_t k = 0; k < KINDS; k++)
+        for (size_t len = 2; len <= 40; len++)
+            for (size_t turn = 0; turn < 8; turn++) {
+                struct packet p = build(&kinds[k], 0, kinds[k].fixed + 48), q = p;
+                uint8_t new[64];
+                size_t place = turn % 4, at = body_of(&p) + place, even = at + (place % 2);
+                for (size_t i = 0; i < len; i++)
+                    q.bytes[at + i] = (uint8_t)any(256);
+                if (even + 2 <= at + len) {
+                    put(field_of(&q), 0);
+                    balance(q.bytes + even, message_total(&q));
+                }
+                memcpy(new, q.bytes + at, len);
+                hold(STRETCH, &p, turn, place, new, len);
+                /* and back */
+                put(field_of(&q), turn < 4 || kinds[k].protocol == UDP ? 0xFFFF : 0);
+                memcpy(new, p.bytes + at, len);
+                hold(STRETCH, &q, turn, place, new, len);
+                hold(JUDGE, &q, turn, 0, NULL, 0);
+                hold(MEND, &q, turn, 0, NULL, 0);
+            }
+    group("edits to multiples and back");
+}
+
+/* Fails unless each branch was met with each kind that has it. */
+static unsigned long branches(void)
+{
+    unsigned long all = 0;
+    for (size_t k = 0; k < KINDS; k++)
+        for (unsigned b = 0; b < BRANCHES; b++) {
+            int icmp = kinds[k].protocol == ICMP, udp = kinds[k].protocol == UDP, four = kinds[k].family == 4;
+            int possible = b == PASSES_ZERO                                                    ? !udp
+                           : b == KEPT_SILENT                                                  ? udp && four
+                           : b == FRESH_BLANK || b == TOTAL_ZERO                               ? icmp
+                           : b == BLANK_BEFORE || b == BLANK_AFTER                             ? icmp
+                           : b >= HEADER_ZERO && b != UPDATE_ZERO && b != UPDATE_FULL          ? four
+                                                                                               : 1;
+            if ((met[k][b] != 0) != possible) {
+                printf("corners: failed: branch %u was met %lu times, IPv%u, protocol %u\n", b, met[k][b], kinds[k].family,
+                       kinds[k].protocol);
+                failed++;
+            }
+            all += possible;
+        }
+    return all;
+}
+
+int main(void)
+{
+    lengths();
+    multiples();
+    blanks();
+    lifetimes();
+    addresses();
+    stretches();
+    to_multiples();
+    unsigned long rare = branches();
+    printf("corners: %lu checks, %lu failed (%lu rare branches, each met)\n", checks, failed, rare);
+    return failed != 0;
+}
