@@ -388,8 +388,13 @@ static void lengths(void)
         for (size_t len = kinds[k].fixed; len <= 300; len++)
             for (size_t address = 0; address < 32; address++) {
                 struct packet p = build(&kinds[k], len % 5 == 0 ? 4 * any(11) : 0, len);
+                /* bodies of ones, with addresses of ones, or with those that bring a total of 64 bits near its end;
+                 * or all zeros */
                 if (address % 4 == 3) {
-                    memset(p.bytes + body_of(&p), address % 8 == 3 ? 0xFF : 0, p.len - body_of(&p));
+                    size_t from = kinds[k].family == 4 ? 12 : 8, to = kinds[k].family == 4 ? 20 : 40;
+                    memset(p.bytes + body_of(&p), address % 16 == 3 ? 0 : 0xFF, p.len - body_of(&p));
+                    memset(p.bytes + from, address % 8 == 7 ? 0xFF : 0, to - from);
+                    memset(p.bytes + to - 4, address % 16 == 3 ? 0 : 0xFF, 4);
                     freshen(&p);
                 }
                 hold(JUDGE, &p, address, 0, NULL, 0);
