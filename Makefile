@@ -11,7 +11,7 @@ help:
 	@echo "make lib      the archive for C: target/staticlib/libhifrostum.a (x86-64 Linux)"
 	@echo "make fuzz     fresh cases through both implementations (SEED, COUNT)"
 	@echo "make interop  scapy, the kernel and tshark, and the Rust wrapper (root)"
-	@echo "make bench    instructions and times beside C"
+	@echo "make bench    instructions, estimated cycles and times beside C (BEFORE=archive: another library's too)"
 	@echo "make fmt      the layout of .rt and .antt files"
 	@echo "scripts/run.sh CAPTURE is make run with an exit status: 0 read to its end, 1 damaged, 2 failed"
 

@@ -99,7 +99,8 @@ static int has(const struct way *way, enum operation op)
 
 /* One call. A chain answers its fold behind its length, or 1; a new address is a destination; a stretch is 8 bytes
  * from the odd place 3 on. It stands in counted() itself, whose instructions don't count. */
-static inline __attribute__((always_inline)) unsigned call(const struct way *way, enum operation op, uint8_t *packet, size_t len)
+static inline __attribute__((always_inline)) unsigned call(const struct way *way, enum operation op, uint8_t *packet,
+                                                           size_t len)
 {
     uint16_t fold;
     uint64_t length;

@@ -50,9 +50,10 @@ estimate() { # PROCESSOR
 
 columns='ours;cc: C;cc: adc;cc: SSE2'
 ! grep -q clang $out/nine || columns="$columns;clang: C;clang: adc;clang: SSE2"
-echo "Cycles for each call, estimated by llvm-mca ($(llvm-mca --version | sed -n 's/.*LLVM version/LLVM/p')). This is a"
-echo "model and no measurement: every load is met in the nearest cache, every branch is foreseen, calls and returns cost"
-echo "nothing, and calls follow each other, of which the next begins before the last has ended."
+model=$(llvm-mca --version | sed -n 's/.*LLVM version/LLVM/p')
+echo "Cycles for each call, estimated by llvm-mca ($model). This is a model and no measurement: every load is met in"
+echo "the nearest cache, every branch is foreseen, calls and returns cost nothing, and the same call is made again and"
+echo "again, the next beginning before the last has ended."
 for processor in skylake znver3; do
     printf '\n%s:\n\n' $processor
     estimate $processor | awk -F ' *[|] *' -v kind=same -v columns="$columns" -f bench/table.awk

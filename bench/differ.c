@@ -44,7 +44,8 @@ static size_t corner(void)
 /* Builds a packet and answers its length. Its fields are fresh, or corners. */
 static size_t build(const struct way *ours, uint8_t *p)
 {
-    static const uint8_t protocols[] = {1, 6, 17, 58, 17, 6}, heads[] = {8, 20, 8, 4, 8, 20}, fields[] = {2, 16, 6, 2, 6, 16};
+    static const uint8_t protocols[] = {1, 6, 17, 58, 17, 6}, heads[] = {8, 20, 8, 4, 8, 20};
+    static const uint8_t fields[] = {2, 16, 6, 2, 6, 16};
     size_t kind = below(6), four = kind == 0 || (kind != 3 && below(2));
     size_t header = four ? (below(3) ? 20 : 20 + 4 * below(11)) : 40;
     size_t extra = below(4) == 0 ? below(1500) : below(140), end = header + heads[kind] + extra;
@@ -147,7 +148,16 @@ static void choose(struct call *c, const uint8_t *p)
     }
 }
 
-unsigned long differ(const struct way *ours, const char *by, const struct way *way, uint64_t seed, unsigned long packets)
+static void show(const struct call *c, const uint8_t *packet, unsigned ours, unsigned others)
+{
+    fprintf(stderr, "operation %d: answers %u and %u; number %zu, %zu new bytes, %zu bytes of packet:\n", c->op, ours,
+            others, c->number, c->new_len, c->len);
+    for (size_t i = 0; i < c->len; i++)
+        fprintf(stderr, "%02X%s", packet[i], i % 32 == 31 || i + 1 == c->len ? "\n" : " ");
+}
+
+unsigned long differ(const struct way *ours, const char *by, const struct way *way, uint64_t seed,
+                     unsigned long packets)
 {
     static uint8_t packet[ROOM + GUARD], want[ROOM + GUARD], got[ROOM + GUARD];
     static unsigned long seen[6][13];
@@ -166,10 +176,8 @@ unsigned long differ(const struct way *ours, const char *by, const struct way *w
             memcpy(got, packet, sizeof packet);
             unsigned a = make(ours, &c, want), b = make(way, &c, got);
             if (a != b || memcmp(want, got, sizeof want) != 0) {
-                fprintf(stderr, "bench: %s%s differs from the library: operation %d, length %zu, answers %u and %u, number %zu, %zu new bytes:\n",
-                        by, way->name, c.op, c.len, a, b, c.number, c.new_len);
-                for (size_t k = 0; k < c.len; k++)
-                    fprintf(stderr, "%02X%s", packet[k], k % 32 == 31 || k + 1 == c.len ? "\n" : " ");
+                fprintf(stderr, "bench: %s%s differs from the library\n", by, way->name);
+                show(&c, packet, a, b);
                 exit(1);
             }
             if (c.op > 0)

@@ -36,13 +36,9 @@ objects='' compilers=cc
     $x86 cc -O2 $flags $clang -static bench/bench.c bench/differ.c $objects "$archive" -o $out/bench
 }
 
-# Prints a table of lines 'operation | packet | column | value'. KIND says what the last column is, and the others:
-# plain (values), same (values, and ours over the best of the others) or times (ours, and the others over ours).
-table() { # KIND COLUMN..
-    kind=$1
-    shift
-    columns=$(printf '%s;' "$@")
-    awk -F ' *[|] *' -v kind="$kind" -v columns="$columns" -f bench/table.awk
+# Prints a table of the lines on standard input; table.awk says what KIND is.
+table() { # KIND COLUMNS
+    awk -F ' *[|] *' -v kind="$1" -v columns="$2" -f bench/table.awk
 }
 
 # the columns' names
@@ -75,9 +71,8 @@ echo "Beside C that serves UDP alone and tests less:"
 echo
 table plain "ours$before$plain" <$out/calls
 echo
-echo "Beside C that makes the same tests in the same order, for all protocols and families, everything inlined: its"
-echo "sum in C, by chains of add-with-carry (adc, assembly), and by SSE2 for long strings and by such chains for short"
-echo "ones:"
+echo "Beside C that makes the same tests in the same order, for all protocols and families, everything inlined. Its sum"
+echo "is C; or chains of add-with-carry (adc), which are assembly; or SSE2 for long strings, and chains for short ones:"
 echo
 table same "ours$before$same" <$out/calls
 
@@ -99,8 +94,8 @@ bench/cycles.sh $out/bench
 echo
 if $x86 native; then
     $x86 run $out/bench times >$out/times
-    echo "Nanoseconds for each call of ours, and how many times as long the others take (best of 3,000 batches, in turns;"
-    echo "$(sed -n 's/^model name[^:]*: *//p' /proc/cpuinfo | head -n 1)):"
+    echo "Nanoseconds for each call of ours, and how many times as long the others take (best of 3,000 batches, in"
+    echo "turns; $(sed -n 's/^model name[^:]*: *//p' /proc/cpuinfo | head -n 1)):"
     echo
     table times "ours$plain" <$out/times
     echo

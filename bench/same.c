@@ -37,7 +37,10 @@ EACH uint8_t inner(work *then, uint8_t *p, struct message m, struct ask ask)
         if (RARE(m.body < 20 || m.body > m.len))
             return 4;
     }
-    if (m.protocol == UDP && (m.family == 4 ? RARE(number(message + 4) != m.len) : RARE(two(message + 4) != two(p + 4))))
+    /* IPv6 has declared the same number in the same byte order */
+    if (m.protocol == UDP && m.family == 4 && RARE(number(message + 4) != m.len))
+        return 4;
+    if (m.protocol == UDP && m.family == 6 && RARE(two(message + 4) != two(p + 4)))
         return 4;
     return then(p, m, ask);
 }

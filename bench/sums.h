@@ -54,13 +54,14 @@ EACH unsigned number(const uint8_t *at)
     return __builtin_bswap16((uint16_t)two(at));
 }
 
-#if KIND == PLAIN
+/* Both compilers make two instructions of it, and more of t + (t < w). */
 EACH u64 add(u64 t, u64 w)
 {
-    t += w;
-    return t + (t < w);
+    int carry = __builtin_uaddll_overflow(t, w, &t);
+    return t + (u64)carry;
 }
 
+#if KIND == PLAIN
 EACH u64 add_two(u64 t, u64 v, u64 w)
 {
     return add(add(t, v), w);
@@ -99,17 +100,6 @@ EACH u64 add_turns(u64 t, const uint8_t *at, const uint8_t *end)
 #else
 #define ANY "rm"
 #endif
-
-EACH u64 add(u64 t, u64 w)
-{
-#ifdef __clang__
-    t += w;
-    return t + (t < w);
-#else
-    __asm__("add %1, %0\n\tadc $0, %0" : "+r"(t) : "rm"(w) : "cc");
-    return t;
-#endif
-}
 
 EACH u64 add_two(u64 t, u64 v, u64 w)
 {

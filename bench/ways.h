@@ -26,6 +26,7 @@ extern const struct way *const c_cc, *const adc_cc, *const sse2_cc, *const c_cla
 
 /* differ.c: stops the program at the first difference between two ways, in answers or in bytes, on packets from a
  * seeded generator. Answers how many calls were compared. */
-unsigned long differ(const struct way *ours, const char *by, const struct way *way, uint64_t seed, unsigned long packets);
+unsigned long differ(const struct way *ours, const char *by, const struct way *way, uint64_t seed,
+                     unsigned long packets);
 
 #endif

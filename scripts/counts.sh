@@ -21,18 +21,16 @@ count() {
 # Compares two tables of lines 'operation | packet | count', and says which calls are off.
 compare() { # TABLE COUNTED
     awk -F ' *[|] *' '
+        function off(why) { print "counts: " call ": " $3 " instructions, " why; wrong++ }
         FILENAME == ARGV[1] { want[$1 " | " $2] = $3; lines++; next }
-        {
-            call = $1 " | " $2
-            met++
-            if (!(call in want)) { print "counts: " call ": " $3 " instructions, and the table has no such call"; off++; next }
-            room = want[call] * 3 / 100
-            if ($3 > want[call] + room) { print "counts: " call ": " $3 " instructions, more than the " want[call] " of the table"; off++ }
-            if ($3 < want[call] - room) { print "counts: " call ": " $3 " instructions, less than the " want[call] " of the table, which is to be renewed"; off++ }
-        }
+        { call = $1 " | " $2; met++ }
+        !(call in want) { off("and the table has no such call"); next }
+        100 * $3 > 103 * want[call] { off("more than the " want[call] " of the table") }
+        100 * $3 < 97 * want[call] { off("less than the " want[call] " of the table, which is to be renewed") }
         END {
-            if (met != lines || met != 10) { print "counts: " met + 0 " calls counted, " lines + 0 " in the table; there are ten"; off++ }
-            exit off != 0
+            if (met == 10 && lines == 10) exit wrong != 0
+            print "counts: " met + 0 " calls, " lines + 0 " in the table: not ten"
+            exit 1
         }' "$1" "$2"
 }
 
@@ -43,7 +41,7 @@ self_test() {
     trap 'rm -rf "$work"' EXIT
     awk 'BEGIN { for (i = 1; i <= 10; i++) print "call | packet " i " | " 100 * i }' >"$work/right"
     cp "$work/right" "$work/equal"
-    awk -F ' *[|] *' '{ print $1 " | " $2 " | " $3 * (NR % 2 ? 1.03 : 0.97) }' "$work/right" >"$work/near"
+    awk -F ' *[|] *' '{ print $1 " | " $2 " | " $3 / 100 * (NR % 2 ? 103 : 97) }' "$work/right" >"$work/near"
     sed 's/| 300$/| 312/' "$work/right" >"$work/more"
     sed 's/| 300$/| 288/' "$work/right" >"$work/less"
     sed '3d' "$work/right" >"$work/missing"

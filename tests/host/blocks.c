@@ -59,7 +59,8 @@ static void block(uint8_t *room, const uint8_t *bytes, size_t len, unsigned fiel
 int main(void)
 {
     static uint8_t bytes[LONGEST];
-    uint8_t head[4], tail[2], *room = mmap(NULL, ROOM + PAGE, PROT_READ | PROT_WRITE, MAP_PRIVATE | MAP_ANONYMOUS, -1, 0);
+    uint8_t head[4], tail[2];
+    uint8_t *room = mmap(NULL, ROOM + PAGE, PROT_READ | PROT_WRITE, MAP_PRIVATE | MAP_ANONYMOUS, -1, 0);
     unsigned long blocks = 0, longest = 0;
     size_t got;
     if (room == MAP_FAILED || mprotect(room + ROOM, PAGE, PROT_NONE) != 0) {

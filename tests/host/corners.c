@@ -1,280 +1,25 @@
 /* Packets that meet the rare branches by design: totals that are multiples of 65535, fields at 0000, FFFF and beside
  * them, changes of 0, 1 and 65534; and messages of every length at every address modulo 32.
  *
- * What is wanted comes from a model in this file: the rules paper's formulas over the covered block, which is laid out
- * whole, pseudo-header first. It never asks the library. After each call the verdict and every byte are compared.
+ * What is wanted is the answer of model.h. After each call the verdict and every byte are compared, and in the end each
+ * rare branch of the model must have been taken.
  */
 #include <stdio.h>
 #include <string.h>
 
 #include "hifrostum.h"
+#include "model.h"
 
-enum { ICMP = 1, TCP = 6, UDP = 17, ICMP6 = 58, ROOM = 512, GUARD = 64 };
-
-static const struct kind {
-    unsigned family, protocol, fixed, field;
-} kinds[] = {{4, ICMP, 8, 2}, {4, TCP, 20, 16}, {4, UDP, 8, 6}, {6, TCP, 20, 16}, {6, UDP, 8, 6}, {6, ICMP6, 4, 2}};
-enum { KINDS = sizeof kinds / sizeof *kinds };
-
-static const unsigned corners[] = {0, 1, 2, 0x00FF, 0x0100, 0x0101, 0x7FFF, 0x8000, 0xFEFE, 0xFEFF, 0xFF00, 0xFFFD, 0xFFFE, 0xFFFF};
+static const unsigned corners[] = {
+    0, 1, 2, 0x00FF, 0x0100, 0x0101, 0x7FFF, 0x8000, 0xFEFE, 0xFEFF, 0xFF00, 0xFFFD, 0xFFFE, 0xFFFF,
+};
 enum { CORNERS = sizeof corners / sizeof *corners };
 
 static unsigned long checks, failed, group_checks;
 
-/* Rare branches, and how often the model took them in a compared call, for each kind of packet. */
-enum branch {
-    FRESH_ZERO,     /* a message's fresh field is 0000, or UDP's FFFF instead */
-    FRESH_BLANK,    /* it is FFFF, since there are only zeros */
-    PASSES_ZERO,    /* a message passes with the field 0000 */
-    PASSES_FULL,    /* and with FFFF */
-    TOTAL_ZERO,     /* a message doesn't pass, since there are only zeros, the field too */
-    HEADER_ZERO,    /* the header passes with the field 0000 */
-    HEADER_FULL,    /* and with FFFF */
-    UPDATE_ZERO,    /* a message's update comes to 0000, or UDP's to FFFF instead */
-    UPDATE_FULL,    /* and does so where equation 3 answers FFFF */
-    UPDATED_HEADER, /* a header's update comes to 0000 */
-    FULL_HEADER,    /* and does so where equation 3 answers FFFF */
-    KEPT_SILENT,    /* a UDP field 0000 stays */
-    BLANK_BEFORE,   /* ICMP is blank before an edit */
-    BLANK_AFTER,    /* or would be after it */
-    BRANCHES
-};
-static unsigned long met[KINDS][BRANCHES];
-static int comparing;
-
-/* Numbers */
-
-static uint32_t state = 1;
-
-static unsigned any(unsigned below)
-{
-    state = state * 1664525 + 1013904223;
-    return (state >> 8) % below;
-}
-
-static unsigned word(const uint8_t *at)
-{
-    return 256u * at[0] + at[1];
-}
-
-static void put(uint8_t *at, unsigned long value)
-{
-    at[0] = (uint8_t)(value >> 8);
-    at[1] = (uint8_t)value;
-}
-
-/* The model: sums */
-
-static unsigned long total(const uint8_t *bytes, size_t len)
-{
-    unsigned long sum = 0;
-    for (size_t i = 0; i < len; i++)
-        sum += i % 2 ? bytes[i] : 256ul * bytes[i];
-    return sum;
-}
-
-static unsigned fold(unsigned long sum)
-{
-    return sum == 0 ? 0 : (unsigned)(1 + (sum - 1) % 65535);
-}
-
-/* RFC 1624's equation 3. */
-static unsigned equation3(unsigned field, unsigned old, unsigned new)
-{
-    return 65535 - fold(65535ul - field + 65535ul - old + new);
-}
-
-/* A packet whose shape is right. Its kind says where things stand. */
-struct packet {
-    const struct kind *kind;
-    size_t header, len;
-    uint8_t bytes[ROOM];
-};
-
-static void meet(const struct packet *p, enum branch branch, int taken)
-{
-    met[p->kind - kinds][branch] += comparing && taken;
-}
-
-static size_t message_len(const struct packet *p)
-{
-    return p->len - p->header;
-}
-
-static uint8_t *field_of(struct packet *p)
-{
-    return p->bytes + p->header + p->kind->field;
-}
-
-static size_t body_of(const struct packet *p)
-{
-    return p->header + (p->kind->protocol == TCP ? p->bytes[p->header + 12] / 16 * 4u : p->kind->fixed);
-}
-
-/* Lays out the covered block and answers its length. */
-static size_t block(const struct packet *p, uint8_t *out)
-{
-    size_t size = 0, len = message_len(p);
-    if (p->kind->family == 4 && p->kind->protocol != ICMP) {
-        memcpy(out, p->bytes + 12, 8);
-        out[8] = 0;
-        out[9] = (uint8_t)p->kind->protocol;
-        put(out + 10, len);
-        size = 12;
-    } else if (p->kind->family == 6) {
-        memcpy(out, p->bytes + 8, 32);
-        memset(out + 32, 0, 8);
-        put(out + 34, len);
-        out[39] = (uint8_t)p->kind->protocol;
-        size = 40;
-    }
-    memcpy(out + size, p->bytes + p->header, len);
-    return size + len;
-}
-
-static unsigned long message_total(const struct packet *p)
-{
-    uint8_t covered[ROOM + 40];
-    return total(covered, block(p, covered));
-}
-
-static int passes(unsigned long sum)
-{
-    return sum > 0 && sum % 65535 == 0;
-}
-
-static int silent(struct packet *p)
-{
-    return p->kind->protocol == UDP && word(field_of(p)) == 0;
-}
-
-/* The model: calls. Each changes the packet as the library must and answers the verdict. */
-
-static unsigned judge(struct packet *p)
-{
-    if (p->kind->family == 4) {
-        if (!passes(total(p->bytes, p->header)))
-            return 5;
-        meet(p, HEADER_ZERO, word(p->bytes + 10) == 0);
-        meet(p, HEADER_FULL, word(p->bytes + 10) == 0xFFFF);
-    }
-    if (silent(p))
-        return p->kind->family == 4 ? 1 : 8;
-    meet(p, TOTAL_ZERO, message_total(p) == 0);
-    if (!passes(message_total(p)))
-        return 9;
-    meet(p, PASSES_ZERO, word(field_of(p)) == 0);
-    meet(p, PASSES_FULL, word(field_of(p)) == 0xFFFF);
-    return 0;
-}
-
-static unsigned mend(struct packet *p)
-{
-    if (p->kind->family == 4) {
-        put(p->bytes + 10, 0);
-        put(p->bytes + 10, 65535 - fold(total(p->bytes, p->header)));
-        if (silent(p))
-            return 0;
-    }
-    put(field_of(p), 0);
-    unsigned fresh = 65535 - fold(message_total(p));
-    meet(p, FRESH_ZERO, fresh == 0);
-    meet(p, FRESH_BLANK, fresh == 0xFFFF);
-    put(field_of(p), p->kind->protocol == UDP && fresh == 0 ? 0xFFFF : fresh);
-    return 0;
-}
-
-/* The fold of bytes that begin at a place of a block. */
-static unsigned fold_at(size_t place, const uint8_t *bytes, size_t len)
-{
-    uint8_t shifted[ROOM + 1] = {0};
-    memcpy(shifted + place % 2, bytes, len);
-    return fold(total(shifted, len + place % 2));
-}
-
-/* A field after bytes at a place of its block were exchanged for others: 0000 where equation 3 answers FFFF. */
-static unsigned renewed(const struct packet *p, int header, unsigned field, size_t place, const uint8_t *old,
-                        const uint8_t *new, size_t len)
-{
-    unsigned answer = equation3(field, fold_at(place, old, len), fold_at(place, new, len));
-    meet(p, header ? FULL_HEADER : UPDATE_FULL, answer == 0xFFFF);
-    answer = answer == 0xFFFF ? 0 : answer;
-    meet(p, header ? UPDATED_HEADER : UPDATE_ZERO, answer == 0);
-    return answer;
-}
-
-static void renew_header(struct packet *p, size_t place, const uint8_t *old, const uint8_t *new, size_t len)
-{
-    if (p->kind->family == 4)
-        put(p->bytes + 10, renewed(p, 1, word(p->bytes + 10), place, old, new, len));
-}
-
-static void renew_message(struct packet *p, size_t place, const uint8_t *old, const uint8_t *new, size_t len)
-{
-    meet(p, KEPT_SILENT, silent(p));
-    if (silent(p))
-        return;
-    unsigned answer = renewed(p, 0, word(field_of(p)), place, old, new, len);
-    put(field_of(p), p->kind->protocol == UDP && answer == 0 ? 0xFFFF : answer);
-}
-
-static unsigned lower(struct packet *p)
-{
-    uint8_t *lifetime = p->bytes + (p->kind->family == 4 ? 8 : 7), less = (uint8_t)(*lifetime - 1);
-    if (p->kind->family == 6 && silent(p))
-        return 8;
-    if (*lifetime < 2)
-        return 11;
-    renew_header(p, 8, lifetime, &less, 1);
-    *lifetime = less;
-    return 0;
-}
-
-static unsigned set_address(struct packet *p, unsigned side, const uint8_t *new)
-{
-    size_t size = p->kind->family == 4 ? 4 : 16;
-    uint8_t *at = p->bytes + (p->kind->family == 4 ? 12 : 8) + side * size;
-    if (p->kind->family == 6 && silent(p))
-        return 8;
-    renew_header(p, 12, at, new, size);
-    if (p->kind->protocol != ICMP)
-        renew_message(p, 0, at, new, size);
-    memcpy(at, new, size);
-    return 0;
-}
-
-/* Whether ICMP's message is all zeros, its field aside. */
-static int blank(const struct packet *p)
-{
-    unsigned long sum = 0;
-    for (size_t i = p->header; i < p->len; i++)
-        if (i - p->header < 2 || i - p->header > 3)
-            sum += p->bytes[i];
-    return p->kind->protocol == ICMP && sum == 0;
-}
-
-static unsigned set_stretch(struct packet *p, size_t place, const uint8_t *new, size_t len)
-{
-    uint8_t *at = p->bytes + body_of(p) + place;
-    struct packet after = *p;
-    if (p->kind->family == 6 && silent(p))
-        return 8;
-    if (place + len > p->len - body_of(p))
-        return 10;
-    if (len == 0)
-        return 0;
-    memcpy(after.bytes + body_of(p) + place, new, len);
-    meet(p, BLANK_BEFORE, blank(p) && !blank(&after));
-    meet(p, BLANK_AFTER, blank(&after) && !blank(p));
-    if (blank(p) || blank(&after))
-        return 12;
-    renew_message(p, (size_t)(at - p->bytes) - p->header, at, new, len);
-    memcpy(at, new, len);
-    return 0;
-}
-
 /* Comparing. The packet lies at an address that is chosen, with guard bytes around. */
 
+enum { GUARD = 64 };
 static uint8_t room[GUARD + 64 + ROOM + GUARD] __attribute__((aligned(64)));
 
 enum call { JUDGE, MEND, LOWER, ADDRESS, STRETCH };
@@ -305,10 +50,11 @@ static void hold(enum call call, const struct packet *p, size_t address, size_t 
     if (got == wanted && memcmp(at, want.bytes, p->len) == 0 && kept)
         return;
     if (failed++ < 20)
-        printf("corners: failed: %s, IPv%u, protocol %u, message of %zu bytes: wanted %u with %04X and %04X, got %u with %04X and %04X%s\n",
-               names[call], p->kind->family, p->kind->protocol, message_len(p), wanted, word(want.bytes + 10),
-               word(field_of(&want)), got, word(at + 10), word(at + p->header + p->kind->field),
-               kept ? "" : "; a guard byte changed");
+        printf("corners: failed: %s, IPv%u, protocol %u, message of %zu bytes, fields %04X and %04X: "
+               "wanted %u with %04X and %04X, got %u with %04X and %04X%s\n",
+               names[call], p->kind->family, p->kind->protocol, message_len(p), word(p->bytes + 10),
+               word(p->bytes + p->header + p->kind->field), wanted, word(want.bytes + 10), word(field_of(&want)), got,
+               word(at + 10), word(at + p->header + p->kind->field), kept ? "" : "; a guard byte changed");
 }
 
 static void group(const char *name)
@@ -318,6 +64,14 @@ static void group(const char *name)
 }
 
 /* Building */
+
+static uint32_t state = 1;
+
+static unsigned any(unsigned below)
+{
+    state = state * 1664525 + 1013904223;
+    return (state >> 8) % below;
+}
 
 /* Sets what a message's shape depends on: TCP's data offset, UDP's length. */
 static void shape(struct packet *p)
@@ -410,7 +164,8 @@ static void lengths(void)
 /* Totals that are multiples of 65535, under every corner field. */
 static void multiples(void)
 {
-    static const size_t sizes[] = {0, 1, 2, 7, 8, 9, 31, 32, 33, 63, 64, 100, 119, 120, 121, 127, 128, 129, 255, 256, 280};
+    static const size_t sizes[] = {0,  1,   2,   7,   8,   9,   31,  32,  33,  63, 64,
+                                   65, 100, 119, 120, 121, 127, 128, 129, 255, 256, 280};
     for (size_t k = 0; k < KINDS; k++)
         for (size_t s = 0; s < sizeof sizes / sizeof *sizes; s++)
             for (size_t c = 0; c < CORNERS; c++) {
@@ -494,9 +249,10 @@ static void lifetimes(void)
 static const struct {
     unsigned old, new;
 } changes[] = {
-    {0x1234, 0x1234}, {0x1234, 0x1235}, {0x1235, 0x1234}, {0, 0xFFFF},      {0xFFFF, 0},      {0xFFFF, 0xFFFF}, {0, 0},
-    {0, 1},           {1, 0},           {0xFFFE, 0xFFFF}, {0xFFFF, 0xFFFE}, {0xFFFF, 1},      {1, 0xFFFF},      {0, 0xFFFE},
-    {0xFFFE, 0},      {0x0100, 0},      {0, 0x0100},      {0x00FF, 0xFF00}, {0x7FFF, 0x8000}, {0x8000, 0x7FFF},
+    {0x1234, 0x1234}, {0x1234, 0x1235}, {0x1235, 0x1234}, {0, 0xFFFF},      {0xFFFF, 0},
+    {0xFFFF, 0xFFFF}, {0, 0},           {0, 1},           {1, 0},           {0xFFFE, 0xFFFF},
+    {0xFFFF, 0xFFFE}, {0xFFFF, 1},      {1, 0xFFFF},      {0, 0xFFFE},      {0xFFFE, 0},
+    {0x0100, 0},      {0, 0x0100},      {0x00FF, 0xFF00}, {0x7FFF, 0x8000}, {0x8000, 0x7FFF},
 };
 enum { CHANGES = sizeof changes / sizeof *changes };
 
@@ -537,8 +293,8 @@ static void addresses(void)
     group("addresses");
 }
 
-/* Stretches at even and odd places whose bytes change by corners, under corner fields: two bytes, one, and more with the
- * rest kept or all alike. */
+/* Stretches at even and odd places whose bytes change by corners, under corner fields: two bytes, one, and more with
+ * the rest kept or all alike. */
 static void stretches(void)
 {
     uint8_t new[ROOM];
@@ -600,15 +356,16 @@ static unsigned long branches(void)
     for (size_t k = 0; k < KINDS; k++)
         for (unsigned b = 0; b < BRANCHES; b++) {
             int icmp = kinds[k].protocol == ICMP, udp = kinds[k].protocol == UDP, four = kinds[k].family == 4;
-            int possible = b == PASSES_ZERO                                                    ? !udp
-                           : b == KEPT_SILENT                                                  ? udp && four
-                           : b == FRESH_BLANK || b == TOTAL_ZERO                               ? icmp
-                           : b == BLANK_BEFORE || b == BLANK_AFTER                             ? icmp
-                           : b >= HEADER_ZERO && b != UPDATE_ZERO && b != UPDATE_FULL          ? four
-                                                                                               : 1;
+            int possible = b == PASSES_ZERO                                      ? !udp
+                           : b == KEPT_SILENT                                    ? udp && four
+                           : b == FRESH_BLANK || b == TOTAL_ZERO                 ? icmp
+                           : b == BLANK_BEFORE || b == BLANK_AFTER               ? icmp
+                           : b == HEADER_ZERO || b == HEADER_FULL                ? four
+                           : b == UPDATED_HEADER || b == FULL_HEADER             ? four
+                                                                                 : 1;
             if ((met[k][b] != 0) != possible) {
-                printf("corners: failed: branch %u was met %lu times, IPv%u, protocol %u\n", b, met[k][b], kinds[k].family,
-                       kinds[k].protocol);
+                printf("corners: failed: branch %u was met %lu times, IPv%u, protocol %u\n", b, met[k][b],
+                       kinds[k].family, kinds[k].protocol);
                 failed++;
             }
             all += possible;
