@@ -15,7 +15,9 @@ bench/count.sh "$program" nine $out/addresses | sed 's/ | [0-9]*$//' >$out/nine
 llvm-objdump -d --no-show-raw-insn "$program" >$out/listing
 
 # A region for each call: the arguments as a caller sets them, which also part the calls from each other, then what was
-# executed, without calls and returns, which the model doesn't know.
+# executed. Three things are put as processors do them and the model doesn't: calls and returns are left out, a push or a
+# pop is a move that doesn't wait for the stack pointer, and an addition from memory is a load, which doesn't wait for
+# the sum, and an addition.
 awk -F '\n' '
     FILENAME == ARGV[1] {
         if (match($0, /^ *[0-9a-f]+:/)) {
@@ -38,7 +40,18 @@ awk -F '\n' '
     /^$/ { print "# LLVM-MCA-END"; open = 0; next }
     {
         sub(/^0+/, "")
-        if (code[$0] !~ /^[ \t]*(call|ret)/) print code[$0]
+        text = code[$0]
+        if (text ~ /^[ \t]*(call|ret)/) next
+        if (text ~ /^[ \t]*pushq[ \t]+%/) { sub(/pushq/, "movq", text); text = text ", -8(%rsp)" }
+        if (text ~ /^[ \t]*popq/) sub(/popq/, "movq 8(%rsp),", text)
+        if (text ~ /^[ \t]*ad[dc]q[ \t].*\), %/) {
+            match(text, /\), %/)
+            from = substr(text, 1, RSTART)
+            sub(/ad[dc]q/, "movq", from)
+            print from ", %r15"
+            print substr(text, 1, index(text, "q")) "\t%r15" substr(text, RSTART + 1)
+        } else
+            print text
     }' $out/listing $out/nine $out/addresses >$out/executed.s
 
 estimate() { # PROCESSOR
