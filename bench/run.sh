@@ -6,8 +6,10 @@
 # (ways.c) is compiled with -O2, and C that makes the library's own tests (same.c) with -O3, by the machine's C compiler
 # and by clang where there is one.
 #
-#   BEFORE=DIR/libhifrostum.a bench/run.sh   also counts the library as it is in that archive, in a column of its own:
-#                                            run `scripts/x86.sh lib` in a clone at another commit, and keep the archive
+#   BEFORE=DIR/libhifrostum.a BEFORE_COMMIT=NAME bench/run.sh
+#
+# also counts the library as it is in that archive, in a column of its own, and says which commit it is of: run
+# `scripts/x86.sh lib` in a clone at that commit, and keep the archive.
 set -eu
 cd "$(dirname "$0")/.."
 x86=scripts/x86.sh out=target/bench flags='-std=c11 -Wall -Wextra -Iinclude'
@@ -48,7 +50,10 @@ for by in $compilers; do
     same="$same;$by: C;$by: adc;$by: SSE2"
 done
 
-echo "ours: $(rt version | cut -d ' ' -f 1)"
+commit=$(git rev-parse --short HEAD 2>/dev/null) || commit=unknown
+git diff --quiet HEAD -- crates crates.txt 2>/dev/null || commit="$commit, with changes"
+echo "ours: commit $commit; $(rt version | cut -d ' ' -f 1)"
+[ -z "${BEFORE:-}" ] || echo "before: commit ${BEFORE_COMMIT:-unknown}"
 for by in $compilers; do
     echo "$by: $($x86 "$by" --version | head -n 1), -O2; -O3 where it makes the same tests"
 done
@@ -56,12 +61,12 @@ done
 $x86 run $out/bench same 200000
 
 bench/count.sh $out/bench calls >$out/calls
-before=
+before='' old=''
 if [ -n "${BEFORE:-}" ]; then
     # shellcheck disable=SC2086
     $x86 cc -O2 $flags -DONLY_OURS -static bench/bench.c "$BEFORE" -o $out/bench-before
     bench/count.sh $out/bench-before calls | sed 's/| ours |/| before |/' >>$out/calls
-    before=';before'
+    before=';before' old=$out/bench-before
 fi
 
 echo
@@ -89,7 +94,8 @@ if [ "$(sed 's/.*| //' $out/lengths | sort -u | wc -l)" -ne 1 ]; then
 fi
 
 echo
-bench/cycles.sh $out/bench
+# shellcheck disable=SC2086
+bench/cycles.sh $out/bench $old
 
 echo
 if $x86 native; then

@@ -122,11 +122,11 @@ EACH int silent(const uint8_t *p, struct message m)
     return m.protocol == UDP && two(p + m.header + 6) == 0;
 }
 
-/* A field less a change that is given as old - new modulo 65535, in 48 bits. UDP's 0000 is sent as FFFF. */
-EACH unsigned changed(unsigned field, u64 change, int udp)
+/* A field, low byte first, from itself and old - new (RFC 1624). UDP's 0000 is sent as FFFF. */
+EACH unsigned changed(u64 sum, int udp)
 {
-    unsigned f = (unsigned)((field + change) % 65535);
-    return udp && f == 0 ? 0xFFFF : f;
+    unsigned f = (unsigned)(sum % 65535);
+    return udp && RARE(f == 0) ? 0xFFFF : f;
 }
 
 /* Judging and mending */
@@ -199,27 +199,23 @@ EACH uint8_t addressed(uint8_t *p, struct message m, struct ask ask)
         return 8;
     if (RARE(ask.number > 1) || RARE(ask.len != (m.family == 4 ? 4 : 16)))
         return 10;
-    u64 change;
     if (m.family == 4) {
         uint8_t *at = p + 12 + 4 * ask.number;
         uint32_t new = (uint32_t)four(ask.bytes);
-        change = four(at) + (uint32_t)~new;
+        u64 change = four(at) + (uint32_t)~new;
         memcpy(at, &new, 4);
-        put_two(p + 10, changed(two(p + 10), change, 0));
+        put_two(p + 10, changed(change + two(p + 10), 0));
+        if (m.protocol == ICMP || (m.protocol == UDP && RARE(two(field) == 0)))
+            return 0;
+        put_two(field, changed(change + two(field), m.protocol == UDP));
     } else {
         uint8_t *at = p + 8 + 16 * ask.number;
         u64 low = eight(ask.bytes), high = eight(ask.bytes + 8);
-        u64 t = add_two(add(eight(at), eight(at + 8)), ~low, ~high);
-        change = (t >> 32) + (uint32_t)t;
+        u64 change = add_two(add(eight(at), eight(at + 8)), ~low, ~high);
         memcpy(at, &low, 8);
         memcpy(at + 8, &high, 8);
+        put_two(field, changed(add(change, two(field)), m.protocol == UDP));
     }
-    if (m.protocol == ICMP)
-        return 0;
-    unsigned old = two(field);
-    if (m.family == 4 && m.protocol == UDP && RARE(old == 0))
-        return 0;
-    put_two(field, changed(old, change, m.protocol == UDP));
     return 0;
 }
 
@@ -273,12 +269,13 @@ EACH uint8_t stretched(uint8_t *p, struct message m, struct ask ask)
         return 0;
     if (m.protocol == ICMP && RARE(blanks(message, m.len, at, ask)))
         return 12;
-    unsigned old = two(field);
-    u64 t = replace(message + at, ask.bytes, ask.len), change = (t >> 32) + (uint32_t)t;
-    if (m.family == 4 && m.protocol == UDP && RARE(old == 0))
+    u64 change = replace(message + at, ask.bytes, ask.len);
+    if (m.family == 4 && m.protocol == UDP && RARE(two(field) == 0))
         return 0;
     /* from an odd place each byte has 256 times the weight, or a 256th of it, which is the same */
-    put_two(field, changed(old, ask.number % 2 ? change << 8 : change, m.protocol == UDP));
+    unsigned turn = ask.number % 2 * 8;
+    change = change << turn | change >> (-turn & 63);
+    put_two(field, changed(add(change, two(field)), m.protocol == UDP));
     return 0;
 }
 
