@@ -27,11 +27,13 @@ static const char *const names[] = {"judge", "mend", "lower lifetime", "set addr
 
 static void hold(enum call call, const struct packet *p, size_t address, size_t number, const uint8_t *new, size_t len)
 {
-    struct packet want = *p;
+    static struct packet want;
     uint8_t *at = room + GUARD + address;
     int kept = 1;
-    memset(room, 0xA5, sizeof room);
+    copy(&want, p);
+    memset(at - GUARD, 0xA5, GUARD);
     memcpy(at, p->bytes, p->len);
+    memset(at + p->len, 0xA5, GUARD);
     comparing = 1;
     unsigned wanted = call == JUDGE     ? judge(&want)
                       : call == MEND    ? mend(&want)
@@ -44,8 +46,8 @@ static void hold(enum call call, const struct packet *p, size_t address, size_t 
                    : call == LOWER   ? hifrostum_lower_lifetime(at, p->len)
                    : call == ADDRESS ? hifrostum_set_address(at, p->len, (uint32_t)number, new, len)
                                      : hifrostum_set_stretch(at, p->len, number, new, len);
-    for (size_t i = 0; i < sizeof room; i++)
-        kept &= (i >= GUARD + address && i < GUARD + address + p->len) || room[i] == 0xA5;
+    for (size_t i = 0; i < GUARD; i++)
+        kept &= at[-1 - (ptrdiff_t)i] == 0xA5 && at[p->len + i] == 0xA5;
     checks++;
     if (got == wanted && memcmp(at, want.bytes, p->len) == 0 && kept)
         return;
@@ -89,27 +91,27 @@ static void freshen(struct packet *p)
     mend(p);
 }
 
-/* A packet of a kind with so many bytes of message, random, with both fields fresh. */
-static struct packet build(const struct kind *kind, size_t options, size_t message)
+/* Builds a packet of a kind with so many bytes of message, random, with both fields fresh. */
+static void build(struct packet *p, const struct kind *kind, size_t options, size_t message)
 {
-    struct packet p = {.kind = kind, .header = kind->family == 4 ? 20 + options : 40};
-    p.len = p.header + message;
-    for (size_t i = 0; i < p.len; i++)
-        p.bytes[i] = (uint8_t)any(256);
+    p->kind = kind;
+    p->header = kind->family == 4 ? 20 + options : 40;
+    p->len = p->header + message;
+    for (size_t i = 0; i < p->len; i++)
+        p->bytes[i] = (uint8_t)any(256);
     if (kind->family == 4) {
-        p.bytes[0] = (uint8_t)(0x40 + p.header / 4);
-        put(p.bytes + 2, p.len);
-        put(p.bytes + 6, 0x4000);
-        p.bytes[9] = (uint8_t)kind->protocol;
+        p->bytes[0] = (uint8_t)(0x40 + p->header / 4);
+        put(p->bytes + 2, p->len);
+        put(p->bytes + 6, 0x4000);
+        p->bytes[9] = (uint8_t)kind->protocol;
     } else {
-        p.bytes[0] = 0x60;
-        put(p.bytes + 4, message);
-        p.bytes[6] = (uint8_t)kind->protocol;
+        p->bytes[0] = 0x60;
+        put(p->bytes + 4, message);
+        p->bytes[6] = (uint8_t)kind->protocol;
     }
-    p.bytes[kind->family == 4 ? 8 : 7] = 64;
-    shape(&p);
-    freshen(&p);
-    return p;
+    p->bytes[kind->family == 4 ? 8 : 7] = 64;
+    shape(p);
+    freshen(p);
 }
 
 /* Changes a word so that a total becomes a multiple of 65535. */
@@ -135,29 +137,43 @@ static void balance_header(struct packet *p)
 
 /* Groups */
 
-/* Messages of every length up to 300 at every address modulo 32: good, with one bit wrong, and mended. */
+static struct packet p, q;
+
+/* A message of a length at an address: good, with one bit wrong, and mended. Some have bodies of ones, with addresses
+ * of ones or with such as bring a total of 64 bits near its end; and some are all zeros. */
+static void message(const struct kind *kind, size_t options, size_t len, size_t address)
+{
+    build(&p, kind, options, len);
+    if (address % 4 == 3) {
+        size_t from = kind->family == 4 ? 12 : 8, to = kind->family == 4 ? 20 : 40;
+        memset(p.bytes + body_of(&p), address % 16 == 3 ? 0 : 0xFF, p.len - body_of(&p));
+        memset(p.bytes + from, address % 8 == 7 ? 0xFF : 0, to - from);
+        memset(p.bytes + to - 4, address % 16 == 3 ? 0 : 0xFF, 4);
+        freshen(&p);
+    }
+    hold(JUDGE, &p, address, 0, NULL, 0);
+    p.bytes[p.header + any((unsigned)len)] ^= (uint8_t)(1 << any(8));
+    shape(&p);
+    hold(JUDGE, &p, address, 0, NULL, 0);
+    hold(MEND, &p, address, 0, NULL, 0);
+}
+
+/* Every length up to 300 at every address modulo 32, and longer ones up to the longest that there is. */
 static void lengths(void)
 {
-    for (size_t k = 0; k < KINDS; k++)
+    static const size_t longer[] = {383,  384,  385,  511,  512,  513,   1023, 1024,
+                                    1025, 1480, 2049, 4097, 65001, 65514, 65515};
+    for (size_t k = 0; k < KINDS; k++) {
         for (size_t len = kinds[k].fixed; len <= 300; len++)
-            for (size_t address = 0; address < 32; address++) {
-                struct packet p = build(&kinds[k], len % 5 == 0 ? 4 * any(11) : 0, len);
-                /* bodies of ones, with addresses of ones, or with those that bring a total of 64 bits near its end;
-                 * or all zeros */
-                if (address % 4 == 3) {
-                    size_t from = kinds[k].family == 4 ? 12 : 8, to = kinds[k].family == 4 ? 20 : 40;
-                    memset(p.bytes + body_of(&p), address % 16 == 3 ? 0 : 0xFF, p.len - body_of(&p));
-                    memset(p.bytes + from, address % 8 == 7 ? 0xFF : 0, to - from);
-                    memset(p.bytes + to - 4, address % 16 == 3 ? 0 : 0xFF, 4);
-                    freshen(&p);
-                }
-                hold(JUDGE, &p, address, 0, NULL, 0);
-                /* but none that the shape depends on */
-                p.bytes[p.header + any((unsigned)len)] ^= (uint8_t)(1 << any(8));
-                shape(&p);
-                hold(JUDGE, &p, address, 0, NULL, 0);
-                hold(MEND, &p, address, 0, NULL, 0);
-            }
+            for (size_t address = 0; address < 32; address++)
+                message(&kinds[k], len % 5 == 0 ? 4 * any(11) : 0, len, address);
+        for (size_t i = 0; i < sizeof longer / sizeof *longer; i++)
+            for (size_t address = 0; address < 32; address += longer[i] < 5000 ? 1 : 5)
+                message(&kinds[k], 0, longer[i], address);
+    }
+    for (size_t k = 3; k < KINDS; k++)
+        for (size_t address = 0; address < 16; address++)
+            message(&kinds[k], 0, 65535, address);
     group("messages of every length");
 }
 
@@ -169,7 +185,7 @@ static void multiples(void)
     for (size_t k = 0; k < KINDS; k++)
         for (size_t s = 0; s < sizeof sizes / sizeof *sizes; s++)
             for (size_t c = 0; c < CORNERS; c++) {
-                struct packet p = build(&kinds[k], s % 3 == 2 ? 40 : 0, kinds[k].fixed + sizes[s]);
+                build(&p, &kinds[k], s % 3 == 2 ? 40 : 0, kinds[k].fixed + sizes[s]);
                 balance_message(&p);
                 put(field_of(&p), corners[c]);
                 if (kinds[k].family == 4) {
@@ -194,10 +210,10 @@ static void multiples(void)
 static void blanks(void)
 {
     static const uint8_t one = 1;
-    uint8_t zeros[ROOM] = {0};
+    static const uint8_t zeros[300];
     for (size_t len = 8; len <= 300; len++)
         for (size_t c = 0; c < CORNERS; c++) {
-            struct packet p = build(&kinds[0], 0, len), q;
+            build(&p, &kinds[0], 0, len);
             memset(p.bytes + p.header, 0, len);
             put(field_of(&p), corners[c]);
             hold(JUDGE, &p, len % 32, 0, NULL, 0);
@@ -205,7 +221,7 @@ static void blanks(void)
             hold(STRETCH, &p, len % 32, 0, zeros, len - 8);
             if (len > 8)
                 hold(STRETCH, &p, len % 32, any((unsigned)len - 8), &one, 1);
-            q = p;
+            copy(&q, &p);
             size_t ones = 2 * any((unsigned)len / 2);
             put(q.bytes + q.header + (ones == 2 ? 4 : ones), 0xFFFF);
             hold(JUDGE, &q, len % 32, 0, NULL, 0);
@@ -229,7 +245,7 @@ static void blanks(void)
 static void lifetimes(void)
 {
     for (size_t k = 0; k < KINDS; k++) {
-        struct packet p = build(&kinds[k], 0, kinds[k].fixed + 4);
+        build(&p, &kinds[k], 0, kinds[k].fixed + 4);
         for (unsigned field = 0; field < 65536 && kinds[k].family == 4; field += k == 0 ? 1 : 251) {
             put(p.bytes + 10, field);
             hold(LOWER, &p, 0, 0, NULL, 0);
@@ -275,7 +291,7 @@ static void addresses(void)
             for (size_t header = 0; header < CORNERS; header++)
                 for (size_t message = 0; message < CORNERS; message++) {
                     size_t size = kinds[k].family == 4 ? 4 : 16, side = (header + message) % 2;
-                    struct packet p = build(&kinds[k], 0, kinds[k].fixed + 3);
+                    build(&p, &kinds[k], 0, kinds[k].fixed + 3);
                     uint8_t *at = p.bytes + (size == 4 ? 12 : 8) + side * size;
                     for (size_t i = 0; i < size; i++)
                         common[i] = (uint8_t)any(256);
@@ -297,13 +313,13 @@ static void addresses(void)
  * the rest kept or all alike. */
 static void stretches(void)
 {
-    uint8_t new[ROOM];
+    uint8_t new[20];
     for (size_t k = 0; k < KINDS; k++)
         for (size_t c = 0; c < CHANGES; c++)
             for (size_t message = 0; message < CORNERS; message++)
                 for (size_t len = 1; len <= 20; len++)
                     for (size_t place = 0; place < 4; place++) {
-                        struct packet p = build(&kinds[k], 0, kinds[k].fixed + 24);
+                        build(&p, &kinds[k], 0, kinds[k].fixed + 24);
                         uint8_t *at = p.bytes + body_of(&p) + place;
                         for (size_t i = 0; i < len; i++) {
                             at[i] = (uint8_t)(i % 2 ? changes[c].old : changes[c].old >> 8);
@@ -328,7 +344,8 @@ static void to_multiples(void)
     for (size_t k = 0; k < KINDS; k++)
         for (size_t len = 2; len <= 40; len++)
             for (size_t turn = 0; turn < 8; turn++) {
-                struct packet p = build(&kinds[k], 0, kinds[k].fixed + 48), q = p;
+                build(&p, &kinds[k], 0, kinds[k].fixed + 48);
+                copy(&q, &p);
                 uint8_t new[64];
                 size_t place = turn % 4, at = body_of(&p) + place, even = at + (place % 2);
                 for (size_t i = 0; i < len; i++)

@@ -7,7 +7,7 @@
 #include <stdint.h>
 #include <string.h>
 
-enum { ICMP = 1, TCP = 6, UDP = 17, ICMP6 = 58, ROOM = 512 };
+enum { ICMP = 1, TCP = 6, UDP = 17, ICMP6 = 58, ROOM = 65600 };
 
 static const struct kind {
     unsigned family, protocol, fixed, field;
@@ -48,12 +48,18 @@ static void put(uint8_t *at, unsigned long value)
 
 /* Sums */
 
-static unsigned long total(const uint8_t *bytes, size_t len)
+/* The total of bytes that begin at a place of a block. */
+static unsigned long total_at(size_t place, const uint8_t *bytes, size_t len)
 {
     unsigned long sum = 0;
     for (size_t i = 0; i < len; i++)
-        sum += i % 2 ? bytes[i] : 256ul * bytes[i];
+        sum += (place + i) % 2 ? bytes[i] : 256ul * bytes[i];
     return sum;
+}
+
+static unsigned long total(const uint8_t *bytes, size_t len)
+{
+    return total_at(0, bytes, len);
 }
 
 static unsigned fold(unsigned long sum)
@@ -73,6 +79,14 @@ struct packet {
     size_t header, len;
     uint8_t bytes[ROOM];
 };
+
+static void copy(struct packet *to, const struct packet *from)
+{
+    to->kind = from->kind;
+    to->header = from->header;
+    to->len = from->len;
+    memcpy(to->bytes, from->bytes, from->len);
+}
 
 static void meet(const struct packet *p, enum branch branch, int taken)
 {
@@ -117,7 +131,7 @@ static size_t block(const struct packet *p, uint8_t *out)
 
 static unsigned long message_total(const struct packet *p)
 {
-    uint8_t covered[ROOM + 40];
+    static uint8_t covered[ROOM + 40];
     return total(covered, block(p, covered));
 }
 
@@ -167,19 +181,11 @@ static unsigned mend(struct packet *p)
     return 0;
 }
 
-/* The fold of bytes that begin at a place of a block. */
-static unsigned fold_at(size_t place, const uint8_t *bytes, size_t len)
-{
-    uint8_t shifted[ROOM + 1] = {0};
-    memcpy(shifted + place % 2, bytes, len);
-    return fold(total(shifted, len + place % 2));
-}
-
 /* A field after bytes at a place of its block were exchanged for others: 0000 where equation 3 answers FFFF. */
 static unsigned renewed(const struct packet *p, int header, unsigned field, size_t place, const uint8_t *old,
                         const uint8_t *new, size_t len)
 {
-    unsigned answer = equation3(field, fold_at(place, old, len), fold_at(place, new, len));
+    unsigned answer = equation3(field, fold(total_at(place, old, len)), fold(total_at(place, new, len)));
     meet(p, header ? FULL_HEADER : UPDATE_FULL, answer == 0xFFFF);
     answer = answer == 0xFFFF ? 0 : answer;
     meet(p, header ? UPDATED_HEADER : UPDATE_ZERO, answer == 0);
@@ -238,19 +244,22 @@ static int blank(const struct packet *p)
 
 static unsigned set_stretch(struct packet *p, size_t place, const uint8_t *new, size_t len)
 {
+    static struct packet after;
     uint8_t *at = p->bytes + body_of(p) + place;
-    struct packet after = *p;
     if (p->kind->family == 6 && silent(p))
         return 8;
     if (place + len > p->len - body_of(p))
         return 10;
     if (len == 0)
         return 0;
-    memcpy(after.bytes + body_of(p) + place, new, len);
-    meet(p, BLANK_BEFORE, blank(p) && !blank(&after));
-    meet(p, BLANK_AFTER, blank(&after) && !blank(p));
-    if (blank(p) || blank(&after))
-        return 12;
+    if (p->kind->protocol == ICMP) {
+        copy(&after, p);
+        memcpy(after.bytes + body_of(p) + place, new, len);
+        meet(p, BLANK_BEFORE, blank(p) && !blank(&after));
+        meet(p, BLANK_AFTER, blank(&after) && !blank(p));
+        if (blank(p) || blank(&after))
+            return 12;
+    }
     renew_message(p, (size_t)(at - p->bytes) - p->header, at, new, len);
     memcpy(at, new, len);
     return 0;
