@@ -11,9 +11,10 @@ if ! command -v llvm-mca >/dev/null || ! command -v llvm-objdump >/dev/null; the
     echo "Cycles aren't estimated: there is no llvm-mca here (Debian's llvm has it)."
     exit 0
 fi
+
 # A region for each call: the arguments as a caller sets them, which also part the calls from each other, then what was
-# executed. Three things are put as processors do them and the model doesn't: calls and returns are left out, a push or a
-# pop is a move that doesn't wait for the stack pointer, and an addition from memory is a load, which doesn't wait for
+# executed. Three things are put as processors do them and the model doesn't: calls and returns are left out, a push or
+# a pop is a move that doesn't wait for the stack pointer, and an addition from memory is a load, which doesn't wait for
 # the sum, and an addition.
 regions() { # PROGRAM
     bench/count.sh "$1" nine $out/addresses | sed 's/ | [0-9]*$//' >$out/nine
