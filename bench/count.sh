@@ -14,7 +14,13 @@ work=$(mktemp -d)
 trap 'rm -rf "$work"' EXIT
 : >"$addresses"
 qemu-x86_64 $single -d exec,nochain "$program" "$what" 2>&1 >"$work/lines" | awk -v addresses="$addresses" '
+    /^bench: / { print >"/dev/stderr"; failed = 1; exit }
     $NF == "begin" { n = 0; on = 1; next }
     $NF == "end" && on { print n; print "" >addresses; on = 0 }
-    on && $NF !~ /^counted/ { n++; split($4, at, "/"); print at[2] >addresses }' >"$work/counts"
+    on && $NF !~ /^counted/ { n++; split($4, at, "/"); print at[2] >addresses }
+    END { exit failed }' >"$work/counts"
+if [ ! -s "$work/lines" ] || [ "$(wc -l <"$work/lines")" -ne "$(wc -l <"$work/counts")" ]; then
+    echo "count: '$program $what' didn't run to its end" >&2
+    exit 1
+fi
 paste -d '|' "$work/lines" "$work/counts" | sed 's/|\([0-9]*\)$/ | \1/'

@@ -17,7 +17,8 @@ fi
 # a pop is a move that doesn't wait for the stack pointer, and an addition from memory is a load, which doesn't wait for
 # the sum, and an addition.
 regions() { # PROGRAM
-    bench/count.sh "$1" nine $out/addresses | sed 's/ | [0-9]*$//' >$out/nine
+    bench/count.sh "$1" nine $out/addresses >$out/counted
+    sed 's/ | [0-9]*$//' $out/counted >$out/nine
     llvm-objdump -d --no-show-raw-insn "$1" >$out/listing
     awk -F '\n' '
         FILENAME == ARGV[1] {
@@ -67,7 +68,8 @@ columns='ours;cc: C;cc: adc;cc: SSE2'
 regions "$1" >$out/executed.s
 ! grep -q clang $out/nine || columns="$columns;clang: C;clang: adc;clang: SSE2"
 if [ $# -eq 2 ]; then
-    regions "$2" | sed 's/^\(# LLVM-MCA-BEGIN .*\)_ours$/\1_before/' >>$out/executed.s
+    regions "$2" >$out/before.s
+    sed 's/^\(# LLVM-MCA-BEGIN .*\)_ours$/\1_before/' $out/before.s >>$out/executed.s
     columns="ours;before${columns#ours}"
 fi
 model=$(llvm-mca --version | sed -n 's/.*LLVM version/LLVM/p')

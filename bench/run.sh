@@ -65,7 +65,8 @@ before='' old=''
 if [ -n "${BEFORE:-}" ]; then
     # shellcheck disable=SC2086
     $x86 cc -O2 $flags -DONLY_OURS -static bench/bench.c "$BEFORE" -o $out/bench-before
-    bench/count.sh $out/bench-before calls | sed 's/| ours |/| before |/' >>$out/calls
+    bench/count.sh $out/bench-before calls >$out/before
+    sed 's/| ours |/| before |/' $out/before >>$out/calls
     before=';before' old=$out/bench-before
 fi
 

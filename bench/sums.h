@@ -7,7 +7,6 @@
 #ifndef SUMS_H
 #define SUMS_H
 
-#include <emmintrin.h>
 #include <stddef.h>
 #include <stdint.h>
 #include <string.h>
@@ -142,6 +141,9 @@ EACH u64 add_turns(u64 t, const uint8_t *at, const uint8_t *end)
 }
 #endif
 
+#if KIND == VECTORS
+#include <emmintrin.h>
+
 /* Two lanes add whole words and let the carries go, two add their high halves, from which the carries are found in the
  * end. Good for less than 2^35 bytes. */
 EACH u64 add_vectors(u64 t, const uint8_t *at, const uint8_t *end)
@@ -161,6 +163,7 @@ EACH u64 add_vectors(u64 t, const uint8_t *at, const uint8_t *end)
     u64 w = (u64)_mm_cvtsi128_si64(words), h = (u64)_mm_cvtsi128_si64(highs);
     return add_two(t, w - (h << 32), h);
 }
+#endif
 
 /* Adds len bytes, at least one, of which the first has an even place. The eight bytes before the last one's end must be
  * readable: all that is left at the end is one load, and what was added before is shifted out. */
@@ -170,7 +173,11 @@ EACH u64 add_bytes(u64 t, const uint8_t *at, size_t len)
     size_t before = len - 1;
     if (before >= 64) {
         const uint8_t *stop = at + (before & ~(size_t)63);
-        t = KIND == VECTORS && before >= 192 ? add_vectors(t, at, stop) : add_turns(t, at, stop);
+#if KIND == VECTORS
+        t = before >= 192 ? add_vectors(t, at, stop) : add_turns(t, at, stop);
+#else
+        t = add_turns(t, at, stop);
+#endif
         at = stop;
     }
     if (before & 32) {

@@ -11,11 +11,13 @@ set -eu
 cd "$(dirname "$0")/.."
 x86=scripts/x86.sh out=target/bench table=bench/counts.txt
 
+# Counts the ten calls into $out/counts.txt.
 count() {
     mkdir -p $out
     archive=$($x86 lib)/libhifrostum.a
     $x86 cc -O2 -std=c11 -Wall -Wextra -Iinclude -DONLY_OURS -static bench/bench.c "$archive" -o $out/ten
-    bench/count.sh $out/ten ten | sed 's/ | ours | / | /'
+    bench/count.sh $out/ten ten >$out/counted
+    sed 's/ | ours | / | /' $out/counted >$out/counts.txt
 }
 
 # Compares two tables of lines 'operation | packet | count', and says which calls are off.
@@ -80,7 +82,7 @@ if ! command -v qemu-x86_64 >/dev/null; then
 fi
 case ${1:-} in
 '')
-    count >$out/counts.txt
+    count
     compare $table $out/counts.txt || {
         echo "counts: read docs/PERFORMANCE.md; scripts/counts.sh --write renews the table" >&2
         exit 1
@@ -88,7 +90,7 @@ case ${1:-} in
     echo "counts: $(wc -l <$table) calls have as many instructions as in $table, within 3 per cent"
     ;;
 --write)
-    count >$out/counts.txt
+    count
     cp $out/counts.txt $table
     cat $table
     ;;
