@@ -16,8 +16,8 @@ returns c =
     let xs = now (c .before .before .before .before .args .b) in
     let l = c .before .before .before .before .pre in
     more-end xs (c .carry .result) 16 (omega arith)
-    ∙ more-eight xs (a .result) (c .carry .result) (b .result) 8 16 (omega arith) refl (b .ensures .0) (c .carry .ensures)
-    ∙ more-eight xs 0 (a .result) (a .result) 0 8 (omega arith) refl (a .ensures .0) (ap fold (sym (zero-add (a .result))))
+    ∙ more-eight xs (a .result) (c .carry .result) (b .result) 8 16 (omega arith) refl (b .ensures) (c .carry .ensures)
+    ∙ more-eight xs 0 (a .result) (a .result) 0 8 (omega arith) refl (a .ensures) (ap fold (sym (zero-add (a .result))))
 
 pub total-16-spec : {M : Type 1} → statement M
 total-16-spec = tie.close (tie.spec (λ c κs. search needs) (λ c κs. search needs) (λ c κs. search needs) returns)
