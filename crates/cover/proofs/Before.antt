@@ -49,20 +49,10 @@ before-even family n addresses size e =
     (λ t. simp t)
 
 -- ---- their totals low byte first, as code adds them up
--- the addresses: one number, or four
+-- the addresses: of IPv4 one number
 pub addresses4-low : (xs : List ℕ) (v : ℕ) → length xs ≡ 8 → v ≡ eightAt xs 0 → fold v ≡ fold (weigh true xs)
 addresses4-low xs v h e =
     more-end xs v 8 (omega arith) ∙ more-eight xs 0 v v 0 8 (omega arith) refl e (ap fold (sym (zero-add v))) ∙ ap fold (zero-add (weigh true xs))
-
-pub addresses6-low : (xs : List ℕ) (a b c d r s t : ℕ) → length xs ≡ 32 → a ≡ eightAt xs 0 → b ≡ eightAt xs 8 → c ≡ eightAt xs 16 → d ≡ eightAt xs 24
-    → fold r ≡ fold (a + b) → fold s ≡ fold (r + c) → fold t ≡ fold (s + d) → fold t ≡ fold (weigh true xs)
-addresses6-low xs a b c d r s t h ea eb ec ed er es et =
-    more-end xs t 32 (omega arith)
-    ∙ more-eight xs s t d 24 32 (omega arith) refl ed et
-    ∙ more-eight xs r s c 16 24 (omega arith) refl ec es
-    ∙ more-eight xs a r b 8 16 (omega arith) refl eb er
-    ∙ more-eight xs 0 a a 0 8 (omega arith) refl ea (ap fold (sym (zero-add a)))
-    ∙ ap fold (zero-add (weigh true xs))
 
 module _ (p : List ℕ) where
   pub before-none : pseudo p ≡ false → fold 0 ≡ fold (256 * total (beforeOf p))
@@ -70,7 +60,7 @@ module _ (p : List ℕ) where
   before-none t = simp t
 
   module _ (k : Facts p) where
-    -- the addresses' added to that of the rest
+    -- that of the rest added to the addresses'
     pub before-some : pseudo p ≡ true → (rest a r : ℕ) → rest ≡ (lengthOf p + protocolOf p) * 256 → fold a ≡ fold (weigh true (addressesOf p)) → fold r ≡ fold (rest + a)
         → fold r ≡ fold (256 * total (beforeOf p))
     unfolding pseudo

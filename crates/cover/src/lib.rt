@@ -8,10 +8,9 @@ use sums::le8;
 use wire::Family;
 use wire::Message;
 ghost use mathlib.Core.Path.{_≡_};
-ghost use mathlib.Core.Bool.{true};
 ghost use Prim.Native.Nat.{_+_, _*_, _-_, _%_, _≤_};
 ghost use lib.ListN.{length};
-ghost use Rattle.sums.specs.Total.{weigh, total};
+ghost use Rattle.sums.specs.Total.{total};
 ghost use Rattle.sums.specs.Fold.{fold};
 ghost use Rattle.sums.specs.Low.{restAt};
 ghost use Rattle.wire.specs.Inner.{beforeOf, Holds};
@@ -66,18 +65,6 @@ fn pseudo_total(packet: &[u8], m: Message) -> u64
             rest,
             le8(&packet[wire::ADDRESSES_4..wire::ADDRESSES_4_END], 0),
         ),
-        Family::Six => carry(
-            rest,
-            addresses6(&packet[wire::ADDRESSES_6..wire::ADDRESSES_6_END]),
-        ),
+        Family::Six => sums::add32(&packet[wire::ADDRESSES_6..wire::ADDRESSES_6_END], 0, rest),
     }
-}
-
-// The total of both addresses of IPv6.
-fn addresses6(b: &[u8]) -> u64
-    requires { ⌜ length (now b) ≡ 32 ⌝ }
-    ensures { λ r. ⌜ fold r ≡ fold (weigh true (now (b .entry))) ⌝ }
-{
-    let source = carry(le8(b, 0), le8(b, 8));
-    carry(carry(source, le8(b, 16)), le8(b, 24))
 }

@@ -5,6 +5,7 @@
 // input, but for `join_within` and the numbers read low byte first, and its promise is one equation.
 mod low;
 
+pub use low::add32;
 pub use low::carry;
 pub use low::le2;
 pub use low::le4;
@@ -57,10 +58,10 @@ pub fn field_of(f: Fold) -> Field
 pub fn passes(t: u64) -> bool
     ensures { λ r. ⌜ r ≡ Fold·passes t ⌝ }
 {
-    if t == 0 {
+    if t % 65535 != 0 {
         return false;
     }
-    t % 65535 == 0
+    t != 0
 }
 
 // The field after the old bytes' fold gave way to the new bytes': RFC 1624's equation 3, but 0000 where that answers

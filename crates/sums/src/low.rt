@@ -24,7 +24,11 @@ pub fn total(b: &[u8], seed: u64) -> u64
     if n >= 128 {
         t = turns(b, n - n % 128, seed);
     }
-    ending(b, n, last8(b, n, last16(b, n, last32(b, n, last64(b, n, t)))))
+    ending(
+        b,
+        n,
+        last8(b, n, last16(b, n, last32(b, n, last64(b, n, t)))),
+    )
 }
 
 // a + b with the carry added in again: an add and an adc.
@@ -86,7 +90,7 @@ fn step(s: Carried, v: u64) -> Carried
     Carried { n: m, c: 0 }
 }
 
-// Chains over the 16, 32 and 64 bytes at i. In the end the carry is added: it fits.
+// Chains over the 16 and 32 bytes at i.
 fn two(b: &[u8], i: usize, s: Carried) -> Carried
     requires { ⌜ (i + 15 < length (now b)) × Room (s .n) (s .c) ⌝ }
     ensures { λ r. ⌜ Room (r .n) (r .c) × (fold (r .n + r .c + restAt (now (b .entry)) (i + 16)) ≡ fold (s .n + s .c + restAt (now (b .entry)) i)) ⌝ }
@@ -101,7 +105,8 @@ fn four(b: &[u8], i: usize, s: Carried) -> Carried
     two(b, i + 16, two(b, i, s))
 }
 
-fn chain2(b: &[u8], i: usize, t: u64) -> u64
+// The 16, 32 and 64 bytes at i, added to a total: a chain, and then its carry, which fits.
+fn add16(b: &[u8], i: usize, t: u64) -> u64
     requires { ⌜ i + 15 < length (now b) ⌝ }
     ensures { λ r. ⌜ fold (r + restAt (now (b .entry)) (i + 16)) ≡ fold (t + restAt (now (b .entry)) i) ⌝ }
 {
@@ -109,7 +114,7 @@ fn chain2(b: &[u8], i: usize, t: u64) -> u64
     s.n + s.c
 }
 
-fn chain4(b: &[u8], i: usize, t: u64) -> u64
+pub fn add32(b: &[u8], i: usize, t: u64) -> u64
     requires { ⌜ i + 31 < length (now b) ⌝ }
     ensures { λ r. ⌜ fold (r + restAt (now (b .entry)) (i + 32)) ≡ fold (t + restAt (now (b .entry)) i) ⌝ }
 {
@@ -117,7 +122,7 @@ fn chain4(b: &[u8], i: usize, t: u64) -> u64
     s.n + s.c
 }
 
-fn chain8(b: &[u8], i: usize, t: u64) -> u64
+fn add64(b: &[u8], i: usize, t: u64) -> u64
     requires { ⌜ i + 63 < length (now b) ⌝ }
     ensures { λ r. ⌜ fold (r + restAt (now (b .entry)) (i + 64)) ≡ fold (t + restAt (now (b .entry)) i) ⌝ }
 {
@@ -134,8 +139,8 @@ fn turns(b: &[u8], end: usize, seed: u64) -> u64
     let mut u: u64 = 0;
     let mut i: usize = 0;
     while i < end {
-        t = chain8(b, i, t);
-        u = chain8(b, i + 64, u);
+        t = add64(b, i, t);
+        u = add64(b, i + 64, u);
         i += 128;
     }
     carry(t, u)
@@ -149,7 +154,7 @@ fn last64(b: &[u8], n: usize, t: u64) -> u64
     if n % 128 < 64 {
         return t;
     }
-    chain8(b, n - n % 128, t)
+    add64(b, n - n % 128, t)
 }
 
 fn last32(b: &[u8], n: usize, t: u64) -> u64
@@ -159,7 +164,7 @@ fn last32(b: &[u8], n: usize, t: u64) -> u64
     if n % 64 < 32 {
         return t;
     }
-    chain4(b, n - n % 64, t)
+    add32(b, n - n % 64, t)
 }
 
 fn last16(b: &[u8], n: usize, t: u64) -> u64
@@ -169,7 +174,7 @@ fn last16(b: &[u8], n: usize, t: u64) -> u64
     if n % 32 < 16 {
         return t;
     }
-    chain2(b, n - n % 32, t)
+    add16(b, n - n % 32, t)
 }
 
 fn last8(b: &[u8], n: usize, t: u64) -> u64

@@ -1,6 +1,6 @@
 -- The addresses and the rest are those of the definition, in each family.
-use mathlib.Core.Path.{_≡_, _∙_, sym, ap}
-use Prim.Native.Nat.{ℕ, _≤_}
+use mathlib.Core.Path.{_≡_, _∙_, refl, sym}
+use Prim.Native.Nat.{ℕ, _+_, _-_, _*_, _≤_}
 use native.Mathlib.Omega.{arith}
 use mathlib.Core.List.{List}
 use mathlib.Core.Bool.{true, false}
@@ -8,9 +8,10 @@ use borrow.Author.Tests.{not-true, not-false}
 use borrow.Author.Needs.{needs}
 use denote.Ref.{now}
 use Rattle.sums.specs.Total.{weigh}
-use Rattle.sums.specs.Fold.{fold}
+use Rattle.sums.proofs.Rests.{more-end}
+use Rattle.wire.specs.Bytes.{part}
 use Rattle.wire.specs.Outer.{four, familyOf, protocolOf}
-use Rattle.wire.specs.Inner.{startOf, endOf, pseudo, addressesOf}
+use Rattle.wire.specs.Inner.{startOf, endOf, pseudo}
 use Rattle.wire.specs.declared.Message.{Message}
 use Rattle.wire.proofs.Parts.{part-length}
 use Rattle.wire.proofs.Facts.{Facts}
@@ -57,8 +58,8 @@ four4 c = let b = entry (c .before .before) in is-four (P b) (sym (known b .fami
 six6 : (c : tie.After-enum-told2) → four (P (entry (c .before .before))) ≡ false
 six6 c = let b = entry (c .before .before) in is-six (P b) (sym (known b .family) ∙ c .enum-told2 .given .1)
 
-part-addresses6-end : tie.Need-part-addresses6-end
-part-addresses6-end c = let k = known (entry (c .before .before)) in let s = k .facts .outer .six (six6 c) in omega arith
+part-add32-end : tie.Need-part-add32-end
+part-add32-end c = let k = known (entry (c .before .before)) in let s = k .facts .outer .six (six6 c) in omega arith
 
 returns-2 : tie.Need-returns-2
 returns-2 c =
@@ -70,11 +71,15 @@ returns-2 c =
 
 returns-3 : tie.Need-returns-3
 returns-3 c =
-    let f = c .before .before .before in
+    let f = c .before .before in
     let b = entry (f .before .before) in
     let k = known b in
-    before-some (P b) (k .facts) (some (f .before .before)) _ _ _ (omega arith)
-    (simp (six6 f) (c .before .addresses6 .ensures)) (c .carry2 .ensures)
+    let xs = part (P b) 8 32 in
+    let x = k .facts .outer .six (six6 f) in
+    let l = part-length (P b) 8 32 (omega arith) in
+    let m = b .args .m in
+    before-some (P b) (k .facts) (some (f .before .before)) ((m .end - m .start + m .protocol) * 256) (weigh true xs) (c .add32 .result) (omega arith) (simp (six6 f) refl)
+    (more-end xs (c .add32 .result) 32 (omega arith) ∙ c .add32 .ensures)
 
 pub pseudo-total-spec : {M : Type 1} → statement M
 pseudo-total-spec =
@@ -94,8 +99,7 @@ pseudo-total-spec =
     (λ c. search needs)
     (λ c. search needs)
     (λ c. search needs)
-    part-addresses6-end
-    (λ c κs. search needs)
+    part-add32-end
     (λ c κs. search needs)
     returns-2
     returns-3)

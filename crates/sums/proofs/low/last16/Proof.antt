@@ -14,7 +14,7 @@ returns c = let s = c .before .before .args in more-none (now (s .b)) (s .t) (s 
 returns-2 : tie.Need-returns-2
 returns-2 c =
     let s = c .before .before .before .args in
-    more-none (now (s .b)) _ (s .n - s .n % 16) (s .n - s .n % 32 + 16) (omega arith) ∙ c .chain2 .ensures
+    more-none (now (s .b)) _ (s .n - s .n % 16) (s .n - s .n % 32 + 16) (omega arith) ∙ c .add16 .ensures
 
 pub last16-spec : {M : Type 1} → statement M
 last16-spec = tie.close (tie.spec returns (λ c. search needs) (λ c κs. search needs) returns-2)

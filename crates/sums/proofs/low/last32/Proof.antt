@@ -14,7 +14,7 @@ returns c = let s = c .before .before .args in more-none (now (s .b)) (s .t) (s 
 returns-2 : tie.Need-returns-2
 returns-2 c =
     let s = c .before .before .before .args in
-    more-none (now (s .b)) _ (s .n - s .n % 32) (s .n - s .n % 64 + 32) (omega arith) ∙ c .chain4 .ensures
+    more-none (now (s .b)) _ (s .n - s .n % 32) (s .n - s .n % 64 + 32) (omega arith) ∙ c .add32 .ensures
 
 pub last32-spec : {M : Type 1} → statement M
 last32-spec = tie.close (tie.spec returns (λ c. search needs) (λ c κs. search needs) returns-2)

@@ -23,9 +23,12 @@ abbrev μ-loop : tie.MeasureT-loop
 loop-again : tie.Need-loop-again Inv-loop μ-loop
 loop-again c =
     let l = c .before .before .before .loop in
-    let b = now (c .before .before .before .before .before .args .b) in
-    (rest-more b _ (l .t) (l .u) _ _ (l .i) (c .before .chain8 .ensures)
-    (more-none b _ (l .i + 128) (l .i + 64 + 64) (omega arith) ∙ c .chain82 .ensures) (l .inv .0), omega arith, omega arith)
+    let b = now (c .before .before .before .before .before .args .b) in (
+      rest-more b _ (l .t) (l .u) _ _ (l .i) (c .before .add64 .ensures)
+          (more-none b _ (l .i + 128) (l .i + 64 + 64) (omega arith) ∙ c .add642 .ensures) (l .inv .0),
+      omega arith,
+      omega arith,
+    )
 
 returns : tie.Need-returns Inv-loop μ-loop
 returns c =

@@ -12,10 +12,11 @@ returns c =
     let d = c .before .before in
     let b = d .before .before .before in
     let l = b .pre .0 in
-    let i = b .args .i in
-    (c .step2 .ensures .0,
-    more-eight _ _ _ _ (i + 8) (i + 16) (omega arith) (omega arith) (c .before .le82 .ensures) (c .step2 .ensures .1)
-    ∙ more-eight _ _ _ _ i (i + 8) (omega arith) refl (d .before .le8 .ensures) (d .step .ensures .1))
+    let i = b .args .i in (
+      c .step2 .ensures .0,
+      more-eight _ _ _ _ (i + 8) (i + 16) (omega arith) (omega arith) (c .before .le82 .ensures) (c .step2 .ensures .1)
+          ∙ more-eight _ _ _ _ i (i + 8) (omega arith) refl (d .before .le8 .ensures) (d .step .ensures .1),
+    )
 
 pub two-spec : {M : Type 1} → statement M
 two-spec =

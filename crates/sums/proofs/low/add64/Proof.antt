@@ -8,8 +8,8 @@ use Rattle.sums.specs.Fold.{fold}
 use Rattle.sums.specs.Low.{restAt}
 use Rattle.sums.proofs.Rests.{more-none}
 use borrow.Author.Needs.{needs}
-use Rattle.sums.proofs.low.chain8.Statement.{statement}
-use Rattle.sums.proofs.low.chain8.Tie as tie
+use Rattle.sums.proofs.low.add64.Statement.{statement}
+use Rattle.sums.proofs.low.add64.Tie as tie
 
 returns : tie.Need-returns
 returns c =
@@ -20,5 +20,5 @@ returns c =
     more-none xs _ (i + 64) (i + 32 + 32) (omega arith) ∙ d .four2 .ensures .1 ∙ d .before .four .ensures .1
     ∙ ap (λ n. fold (n + restAt xs i)) (add-zero _)
 
-pub chain8-spec : {M : Type 1} → statement M
-chain8-spec = tie.close (tie.spec (λ c. search needs) (λ c κs. search needs) (λ c κs. search needs) (λ c. search needs) returns)
+pub add64-spec : {M : Type 1} → statement M
+add64-spec = tie.close (tie.spec (λ c. search needs) (λ c κs. search needs) (λ c κs. search needs) (λ c. search needs) returns)

@@ -6,13 +6,13 @@ use denote.Ref.{now}
 use Rattle.sums.specs.Fold.{fold}
 use Rattle.sums.specs.Low.{restAt}
 use borrow.Author.Needs.{needs}
-use Rattle.sums.proofs.low.chain4.Statement.{statement}
-use Rattle.sums.proofs.low.chain4.Tie as tie
+use Rattle.sums.proofs.low.add32.Statement.{statement}
+use Rattle.sums.proofs.low.add32.Tie as tie
 
 returns : tie.Need-returns
 returns c =
     let b = c .before .before .before in
     c .before .four .ensures .1 ∙ ap (λ n. fold (n + restAt (now (b .args .b)) (b .args .i))) (add-zero _)
 
-pub chain4-spec : {M : Type 1} → statement M
-chain4-spec = tie.close (tie.spec (λ c κs. search needs) (λ c. search needs) returns)
+pub add32-spec : {M : Type 1} → statement M
+add32-spec = tie.close (tie.spec (λ c κs. search needs) (λ c. search needs) returns)
