@@ -1,6 +1,6 @@
 -- What stands before the message in the covered block: an even number of bytes, and its total.
-use mathlib.Core.Path.{_≡_, refl, sym, ap, _∙_}
-use Prim.Native.Nat.{ℕ, _+_, _*_}
+use mathlib.Core.Path.{_≡_, refl, sym, ap, ap₂, _∙_}
+use Prim.Native.Nat.{ℕ, _+_, _*_, _-_}
 use native.Mathlib.Nat.{zero-add}
 use native.Mathlib.Omega.{arith}
 use mathlib.Core.List.{List}
@@ -16,7 +16,7 @@ use Rattle.sums.proofs.Rests.{more-eight, more-end}
 use Rattle.wire.specs.Bytes.{part}
 use Rattle.wire.specs.Outer.{four, familyOf, protocolOf, addressesAt, addressesLength}
 use Rattle.wire.specs.Messages.{planIn, restIn, beforeIn}
-use Rattle.wire.specs.Inner.{lengthOf, messageBytes, pseudo, addressesOf, beforeOf, coveredOf}
+use Rattle.wire.specs.Inner.{startOf, endOf, lengthOf, messageBytes, pseudo, addressesOf, beforeOf, coveredOf}
 use Rattle.wire.specs.declared.Family.{Family}
 use Rattle.wire.specs.declared.Family.the-variants.{Four, Six}
 use Rattle.wire.proofs.Parts.{part-length}
@@ -71,10 +71,12 @@ module _ (p : List ℕ) where
         e ∙ fold-sum rest rest a (256 * total (addressesOf p)) refl (ea ∙ low-times (addressesOf p)) ∙ ap fold (omega arith)
 
     -- and its own added to the message's: the covered block's
-    pub message-low : (b r : ℕ) → fold b ≡ fold (256 * total (beforeOf p)) → fold r ≡ fold (b + weigh true (messageBytes p)) → fold r ≡ fold (256 * messageTotal p)
+    pub message-low : (s e b r : ℕ) → s ≡ startOf p → e ≡ endOf p → fold b ≡ fold (256 * total (beforeOf p)) → fold r ≡ fold (b + weigh true (part p s (e - s)))
+        → fold r ≡ fold (256 * messageTotal p)
     unfolding messageTotal
-    message-low b r eb e =
+    message-low s e b r es ee eb er =
         let w : total (coveredOf p) ≡ total (beforeOf p) + total (messageBytes p) =
         ap total (covered-at (same-self p) k)
         ∙ weigh-even false (beforeOf p) (messageBytes p) (before-even (familyOf p) (protocolOf p) (addressesOf p) (lengthOf p) (addresses-even p p (k .outer) refl)) in
-        e ∙ fold-sum b (256 * total (beforeOf p)) (weigh true (messageBytes p)) (256 * total (messageBytes p)) eb (low-times (messageBytes p)) ∙ ap fold (omega arith)
+        er ∙ ap₂ (λ s e. fold (b + weigh true (part p s (e - s)))) es ee
+        ∙ fold-sum b (256 * total (beforeOf p)) (weigh true (messageBytes p)) (256 * total (messageBytes p)) eb (low-times (messageBytes p)) ∙ ap fold (omega arith)

@@ -14,7 +14,6 @@ ghost use Rattle.sums.specs.Total.{total};
 ghost use Rattle.sums.specs.Fold.{fold};
 ghost use Rattle.sums.specs.Low.{restAt};
 ghost use Rattle.wire.specs.Inner.{beforeOf, Holds};
-ghost use Rattle.cover.specs.Sums.{messageTotal};
 
 // The total of an IPv4 header: 20 bytes, then its options.
 pub fn header_total(header: &[u8]) -> u64
@@ -39,19 +38,8 @@ pub fn fours(b: &[u8], from: usize, seed: u64) -> u64
     t
 }
 
-// The total of a message behind its pseudo-header.
-pub fn message_total(packet: &[u8], m: Message) -> u64
-    requires { ⌜ Holds (now packet) m ⌝ }
-    ensures { λ r. ⌜ fold r ≡ fold (256 * messageTotal (now (packet .entry))) ⌝ }
-{
-    let start = m.start;
-    let end = m.end;
-    let before = pseudo_total(packet, m);
-    sums::total(&packet[start..end], before)
-}
-
-// The total of a message's pseudo-header, or of nothing where it has none.
-fn pseudo_total(packet: &[u8], m: Message) -> u64
+// The total of a message's pseudo-header, or of nothing where it has none: the seed for that of the message.
+pub fn pseudo_total(packet: &[u8], m: Message) -> u64
     requires { ⌜ Holds (now packet) m ⌝ }
     ensures { λ r. ⌜ fold r ≡ fold (256 * total (beforeOf (now (packet .entry)))) ⌝ }
 {

@@ -123,8 +123,7 @@ pub extern "C" fn hifrostum_join(
 pub extern "C" fn hifrostum_field(bytes: &[u8]) -> u16
     ensures { λ r. ⌜ r ≡ fieldOf (Fold·fold (total (now (bytes .entry)))) ⌝ }
 {
-    let f = sums::fold_at(bytes, false);
-    let field = sums::field_of(f);
+    let field = sums::block_field(bytes);
     field.0
 }
 

@@ -71,7 +71,10 @@ fn judge_message(packet: &[u8], m: Message) -> Verdict
             Family::Six => Verdict::Missing,
         };
     }
-    if sums::passes(cover::message_total(packet, m)) {
+    let start = m.start;
+    let end = m.end;
+    let before = cover::pseudo_total(packet, m);
+    if sums::passes(sums::total(&packet[start..end], before)) {
         Verdict::Good
     } else {
         Verdict::MessageSum

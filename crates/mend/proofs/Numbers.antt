@@ -9,7 +9,8 @@ use native.Mathlib.Decide.{ℕ-discrete}
 use lib.Dec.{eqb}
 use borrow.Author.Tests.{eq-eqb, ne-eqb}
 use Rattle.sums.specs.Fold.{fold, fieldOf, passes, swap}
-use Rattle.sums.proofs.Folds.{fold-as, fold-small, fold-mod, fold-times, swap-swap, swap-field, mod-in, mod-plus}
+use Rattle.sums.proofs.Folds.{fold-as, fold-small, fold-mod, fold-fold, mod-in, mod-plus}
+use Rattle.sums.proofs.Totals.{field-from-low}
 use Rattle.sums.proofs.Passing.{passing, passed, fresh-passes}
 use Rattle.mend.specs.Fresh.{sent}
 
@@ -58,23 +59,17 @@ passing-fresh t hc u small p some = by u some
         let w = fieldOf (fold t) in
         inl (elim (ℕ-discrete (fold t) 65535) [ yes e ↦ omega (arith, sent-as w) | no e ↦ omega (arith, sent-as w, fold-small t) ])
 
--- ---- a field worked out low byte first; t is the total of the block but for the field, and code counts 256 * t
-pub fresh-low : (t f : ℕ) → f ≡ fold (256 * t) → swap (65535 - f) ≡ fieldOf (fold t)
-fresh-low t f e =
-    let s = e ∙ fold-times t in
-    let n = fold-small t in
-    swap-field f (omega (arith, e, fold-small (256 * t))) ∙ ap (λ n. 65535 - swap n) s ∙ ap (λ n. 65535 - n) (swap-swap (fold t) n)
-
+-- ---- a field worked out low byte first; s is the total of the block but for the field, and t, which is like 256 * s, what code counts
 -- where 65535 doesn't divide it
-pub fresh-some : (t r : ℕ) (u : Bool) → r ≡ (256 * t) % 65535 → ¬ (r ≡ 0) → swap (65535 - r) ≡ sent u (fieldOf (fold t))
-fresh-some t r u e n = by u
+pub fresh-some : (s t r : ℕ) (u : Bool) → t % 65535 ≡ (256 * s) % 65535 → r < 65535 → (r + t) % 65535 ≡ 0 → ¬ (r ≡ 0) → swap r ≡ sent u (fieldOf (fold s))
+fresh-some s t r u e small m n = by u
   where
-    is : swap (65535 - r) ≡ fieldOf (fold t)
-    is = fresh-low t r (omega (arith, fold-mod (256 * t), fold-small (256 * t)))
+    is : swap r ≡ fieldOf (fold s)
+    is = field-from-low (fold (256 * s)) s r (fold-fold (256 * s)) (omega (arith, fold-mod (256 * s), e)) small (omega (arith, fold-mod (256 * s), e))
 
-    by : (u : Bool) → swap (65535 - r) ≡ sent u (fieldOf (fold t))
+    by : (u : Bool) → swap r ≡ sent u (fieldOf (fold s))
     by false = unfold sent in is
-    by true = let s : 0 < swap (65535 - r) = omega arith in omega (arith, sent-as (fieldOf (fold t)), is)
+    by true = let h : 0 < swap r = omega arith in omega (arith, sent-as (fieldOf (fold s)), is)
 
 -- where code counts 0
 pub zero-low : (r t : ℕ) → fold r ≡ fold (256 * t) → eqb r 0 ≡ eqb t 0
@@ -110,9 +105,3 @@ less-field t hc high m f r em eh small er =
   where
     alike : (a b : ℕ) → fold a ≡ fold b → a % 65535 ≡ b % 65535
     alike a b e = sym (fold-mod a) ∙ ap (λ n. n % 65535) e ∙ fold-mod b
-
--- the header's, whose total isn't 0
-pub fresh-header : (t r : ℕ) → fold r ≡ fold (256 * t) → 0 < r → swap (65534 - (r - 1) % 65535) ≡ fieldOf (fold t)
-fresh-header t r e h =
-    let k : 65534 - (r - 1) % 65535 ≡ 65535 - fold r = omega (arith, fold-as r) in
-    ap swap k ∙ fresh-low t (fold r) e

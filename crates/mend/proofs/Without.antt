@@ -8,7 +8,7 @@ use lib.ListN.{length}
 use Rattle.sums.specs.Total.{odd, weigh, total}
 use Rattle.sums.specs.Fold.{fold, swap}
 use Rattle.sums.proofs.Folds.{fold-as, fold-sum}
-use Rattle.sums.proofs.Totals.{weigh-even, low-times}
+use Rattle.sums.proofs.Totals.{weigh-even, low-times, field-from-low}
 use Rattle.wire.specs.Bytes.{part, putWord}
 use Rattle.wire.specs.Outer.{headerEnd, headerField}
 use Rattle.wire.specs.Inner.{startOf, lengthOf, fieldAt, pseudo}
@@ -20,7 +20,6 @@ use Rattle.cover.specs.Sums.{headerTotal, messageTotal}
 use Rattle.cover.proofs.Totals.{addressTotal, restTotal, message-parts}
 use Rattle.cover.proofs.Blocks.{header-some}
 use Rattle.mend.specs.Fresh.{freshHeader}
-use Rattle.mend.proofs.Numbers.{fresh-header}
 use Rattle.mend.proofs.Fresh.{sameH, sameF}
 
 module _ (p : List ℕ) (a f e : ℕ) (low : a ≤ f) (even : (f - a) % 2 ≡ 0) (high : f + 2 ≤ e) (fits : e ≤ length p) where
@@ -50,14 +49,14 @@ module _ (p : List ℕ) (a f e : ℕ) (low : a ≤ f) (even : (f - a) % 2 ≡ 0)
 
 -- ---- the blocks of a packet
 module _ (p : List ℕ) (k : Facts p) where
-  pub header-without : (t : ℕ) → fold t ≡ fold (256 * total (part (putWord p headerField 0) 0 (headerEnd p - 0))) → (0 < t) × (swap (65534 - (t - 1) % 65535) ≡ freshHeader p)
+  pub header-without : (t r : ℕ) → fold t ≡ fold (256 * total (part (putWord p headerField 0) 0 (headerEnd p - 0))) → r < 65535 → (r + t) % 65535 ≡ 0 → swap r ≡ freshHeader p
   unfolding freshHeader headerTotal
-  header-without t e =
+  header-without t r e small m =
       let s = sameH (k .outer) (same-self p) 0 in
       let n : headerEnd p - 0 ≡ headerEnd (putWord p headerField 0) = omega (arith, header-end-same (s .header)) in
       let h = e ∙ ap (λ (n : ℕ). fold (256 * total (part (putWord p headerField 0) 0 n))) n in
       let some : 0 < t = omega (arith, fold-as t, fold-as (256 * headerTotal (putWord p headerField 0)), header-some (k .outer) s) in
-      (some, fresh-header (headerTotal (putWord p headerField 0)) t h some)
+      field-from-low t (headerTotal (putWord p headerField 0)) r h some small m
 
   -- without a pseudo-header the message is the block
   pub plain-total : pseudo p ≡ false → messageTotal (putWord p (fieldAt p) 0) ≡ total (part (putWord p (fieldAt p) 0) (startOf p) (lengthOf p))

@@ -101,8 +101,7 @@ fn fresh_header(packet: &[u8], m: Message) -> u64
 {
     let end = m.header;
     let before = before_field(&packet[..wire::HEADER_FIELD]);
-    let t = after_field(&packet[wire::ADDRESSES_4..end], before);
-    65534 - (t - 1) % 65535
+    sums::field_low(after_field(&packet[wire::ADDRESSES_4..end], before))
 }
 
 // The total of the ten bytes before a header's field.
@@ -126,11 +125,14 @@ fn fresh_message(packet: &[u8], m: Message) -> u64
     requires { ⌜ Holds (now packet) m ⌝ }
     ensures { λ r. ⌜ (r ≤ 65535) × (swap r ≡ freshMessage (now (packet .entry))) ⌝ }
 {
+    let start = m.start;
+    let end = m.end;
     let field = le2(packet, m.field);
-    let t = carry(cover::message_total(packet, m), 65535 - field);
-    let rest = t % 65535;
-    if rest != 0 {
-        return 65535 - rest;
+    let before = cover::pseudo_total(packet, m);
+    let t = carry(sums::total(&packet[start..end], before), 65535 - field);
+    let fresh = sums::field_low(t);
+    if fresh != 0 {
+        return fresh;
     }
     zero_field(packet, m)
 }

@@ -1,19 +1,17 @@
 -- The header with its field read as 0000.
 use mathlib.Core.Path.{_≡_, _∙_, sym, ap}
-use Prim.Native.Nat.{ℕ, _+_, _-_, _*_, _%_, _<_}
+use Prim.Native.Nat.{ℕ, _-_, _*_, _%_}
 use native.Mathlib.Omega.{arith}
-use mathlib.Core.Bool.{true}
 use mathlib.Core.List.{List}
 use lib.Seq.{length-take-le}
 use denote.Ref.{now}
-use Rattle.sums.specs.Total.{weigh, total}
-use Rattle.sums.specs.Fold.{fold, swap}
+use Rattle.sums.specs.Total.{total}
+use Rattle.sums.specs.Fold.{fold}
 use Rattle.wire.specs.Bytes.{part, putWord}
 use Rattle.wire.specs.Outer.{headerEnd, headerField}
 use Rattle.wire.specs.declared.Message.{Message}
 use Rattle.wire.proofs.Parts.{part-length}
 use Rattle.wire.proofs.Held.{held-facts}
-use Rattle.mend.specs.Fresh.{freshHeader}
 use Rattle.mend.proofs.Without.{without-low, header-without}
 use borrow.Author.Needs.{needs}
 use Rattle.mend.proofs.fresh_header.Statement.{statement}
@@ -39,15 +37,18 @@ after-field-requires c κs =
     let l = part-length (P b) 12 (b .args .m .header - 12) (omega arith) in
     (omega arith, omega arith)
 
-made : (c : tie.After-after-field) → let p = P (c .before .before .before .before .before) in let t = c .after-field .result in (0 < t) × (swap (65534 - (t - 1) % 65535) ≡ freshHeader p)
-made c =
-    let b = c .before .before .before .before .before in
+returns : tie.Need-returns
+returns c =
+    let d = c .before in
+    let b = d .before .before .before .before .before in
     let f = held-facts (b .pre .0) in
     let e = end b in
-    header-without (P b) f _
+    let r = c .field-low .ensures in
+    (omega (arith, r .0),
+    header-without (P b) f _ _
     (without-low (P b) 0 headerField (b .args .m .header) (omega arith) (omega arith) (omega arith) (omega arith) _ _
-    (c .before .before .before-field .ensures) (c .after-field .ensures)
-    ∙ ap (λ (n : ℕ). fold (256 * total (part (putWord (P b) headerField 0) 0 (n - 0)))) e)
+    (d .before .before .before-field .ensures) (d .after-field .ensures)
+    ∙ ap (λ (n : ℕ). fold (256 * total (part (putWord (P b) headerField 0) 0 (n - 0)))) e) (r .0) (r .1))
 
 pub fresh-header-spec : {M : Type 1} → statement M
 fresh-header-spec =
@@ -59,6 +60,5 @@ fresh-header-spec =
     (λ c. let b = c .before .before .before in let f = held-facts (b .pre .0) in let e = end b in omega arith)
     (λ c. let b = c .before .before .before in let f = held-facts (b .pre .0) in let e = end b in omega arith)
     after-field-requires
-    (λ c. let m = made c .0 in omega arith)
-    (λ c. omega arith)
-    (λ c. (omega arith, made c .1)))
+    (λ c κs. search needs)
+    returns)
