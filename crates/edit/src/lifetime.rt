@@ -1,6 +1,6 @@
 // The lifetime lowered in a packet whose shape is right.
 use steps::missing;
-use steps::renewed;
+use steps::raised;
 use verdicts::Verdict;
 use wire::Family;
 use wire::Message;
@@ -26,7 +26,7 @@ pub fn lower(packet: &mut [u8], m: Message) -> Verdict
     }
 }
 
-// IPv4's, which the header's sum covers. It is the first byte of its word, so low byte first the change is one less.
+// IPv4's, which the header's sum covers. It is its word's first byte, so low byte first the change is one less.
 fn lower4(packet: &mut [u8]) -> Verdict
     requires { ⌜ (20 ≤ length (now packet)) × (four (now packet) ≡ true) ⌝ }
     ensures { λ r. ⌜ (r, now (packet .exit)) ≡ lifetimeIn (now (packet .entry)) ⌝ }
@@ -35,7 +35,7 @@ fn lower4(packet: &mut [u8]) -> Verdict
     if lifetime < 2 {
         return Verdict::Spent;
     }
-    let field = renewed(packet, wire::HEADER_FIELD, 65534, false);
+    let field = raised(packet, wire::HEADER_FIELD);
     packet[wire::LIFETIME_4] = lifetime - 1;
     wire::put_low(packet, wire::HEADER_FIELD, field);
     Verdict::Good

@@ -23,14 +23,18 @@ pub complement : (old new r : ℕ) → old ≤ 18446744073709551615 → r % 6553
     → (r % 65535 + old) % 65535 ≡ new % 65535
 complement old new r h e = omega arith
 
+-- totals of one fold are alike modulo 65535
+pub fold-alike : (a b : ℕ) → fold a ≡ fold b → a % 65535 ≡ b % 65535
+fold-alike a b e = sym (fold-mod a) ∙ ap (λ n. n % 65535) e ∙ fold-mod b
+
 -- ---- a change, by any totals that have the folds of the old bytes' and the new bytes'
 module _ (old new : List ℕ) (s t d : ℕ) (es : fold s ≡ fold (0 + weigh true old)) (et : fold t ≡ fold (0 + weigh true new))
     (e : (d + s) % 65535 ≡ t % 65535) where
   low-change : (d + weigh true old) % 65535 ≡ weigh true new % 65535
   low-change =
-      let a : s % 65535 ≡ weigh true old % 65535 = sym (fold-mod s) ∙ ap (λ n. n % 65535) es ∙ fold-mod (0 + weigh true old) ∙ ap (λ n. n % 65535) (zero-add (weigh true old)) in
-      let b : t % 65535 ≡ weigh true new % 65535 = sym (fold-mod t) ∙ ap (λ n. n % 65535) et ∙ fold-mod (0 + weigh true new) ∙ ap (λ n. n % 65535) (zero-add (weigh true new)) in
-      mod-plus d d (weigh true old) s refl (sym a) ∙ e ∙ b
+      let o = weigh true old in
+      let n = weigh true new in
+      mod-plus d d o s refl (sym (fold-alike s o (es ∙ ap fold (zero-add o)))) ∙ e ∙ fold-alike t n (et ∙ ap fold (zero-add n))
 
   -- bytes at an even position, and at an odd one
   pub changes : (odd : Bool) → Change (swapIf odd d) (weigh odd old) (weigh odd new)

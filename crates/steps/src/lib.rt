@@ -7,6 +7,7 @@ pub use blank::blanks;
 pub use update::aligned;
 pub use update::change;
 pub use update::put_message;
+pub use update::raised;
 pub use update::renewed;
 pub use update::total_4;
 pub use update::total_16;

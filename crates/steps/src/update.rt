@@ -1,7 +1,7 @@
 // Fields updated and written. Numbers are read and written low byte first: modulo 65535 that is to take each 256 times,
 // so what is added up and taken away stays right, and nothing is exchanged on the way.
 ghost use mathlib.Core.Path.{_≡_};
-ghost use mathlib.Core.Bool.{true};
+ghost use mathlib.Core.Bool.{true, false};
 ghost use Prim.Native.Nat.{_+_, _%_, _<_, _≤_};
 ghost use lib.ListN.{length};
 ghost use Rattle.sums.specs.Total.{weigh};
@@ -40,8 +40,8 @@ pub fn total_16(b: &[u8]) -> u64
     sums::carry(sums::le8(b, 0), sums::le8(b, 8))
 }
 
-// The field at a place after a change, which it goes down by, being a complement. 0000 and FFFF are alike: UDP has the
-// one and any other the other (RFC 1624's equation 3, but 0000 where that answers FFFF).
+// The field at a place after a change, by which it goes down, being a complement. 0000 and FFFF are one number modulo
+// 65535: FFFF is UDP's, whose 0000 means no sum, and 0000 any other's (RFC 1624's equation 3, but for its FFFF).
 pub fn renewed(packet: &[u8], at: usize, d: u64, udp: bool) -> u64
     requires { ⌜ (at + 1 < length (now packet)) × (d ≤ 65534) ⌝ }
     ensures { λ r. ⌜ Renewed udp (wordAt (now (packet .entry)) at) d r ⌝ }
@@ -54,6 +54,18 @@ pub fn renewed(packet: &[u8], at: usize, d: u64, udp: bool) -> u64
         return 0;
     }
     w
+}
+
+// The same for a change of one less that isn't UDP's, in fewer instructions: the field goes up by one.
+pub fn raised(packet: &[u8], at: usize) -> u64
+    requires { ⌜ at + 1 < length (now packet) ⌝ }
+    ensures { λ r. ⌜ Renewed false (wordAt (now (packet .entry)) at) 65534 r ⌝ }
+{
+    let f = sums::le2(packet, at);
+    if f < 65534 {
+        return f + 1;
+    }
+    f - 65534
 }
 
 // f - d modulo 65535, and 65535 for 0.

@@ -17,7 +17,7 @@ returns-2 c =
     let r = w .before .before in
     let a = r .before .before .before .before .before in
     ap (λ (q : List ℕ). (Good, q)) (w .put-low .ensures)
-    ∙ lowered4 (now (a .args .packet)) (a .pre .1) (omega arith) (omega arith) _ (r .renewed .ensures)
+    ∙ lowered4 (now (a .args .packet)) (a .pre .1) (omega arith) (omega arith) _ (r .raised .ensures)
 
 pub lower4-spec : {M : Type 1} → statement M
 lower4-spec =
@@ -28,6 +28,6 @@ lower4-spec =
     (λ c κs. search needs)
     (λ c. search needs)
     (λ c. search needs)
-    (λ c κs. (simp length-set (omega arith), c .before .renewed .ensures .small))
+    (λ c κs. (simp length-set (omega arith), c .before .raised .ensures .small))
     (λ c. c .before .before .put-low .kept .0 ∙ simp length-set)
     returns-2)
