@@ -61,33 +61,25 @@ pub record Sided (p : List ℕ) (side a : ℕ) : Type 0 where
   pub within : odd (a - addressesAt p) ≡ false
 
 module _ (p : List ℕ) (side : ℕ) (h : side ≤ 1) where
+  side-at : addressesAt p + addressSize p * side ≡ sideAt p side
+  side-at =
+      by-cases (eqb side 0)
+      (λ t. let z = eqb-true side 0 t in simp t (rw z (omega arith)))
+      (λ t. let n : ¬ (side ≡ 0) = eqb-false side 0 t in let z : side ≡ 1 = omega arith in simp t (rw z (omega arith)))
+
   pub sided4 : four p ≡ true → Sided p side (12 + 4 * side)
   unfolding odd
   sided4 f =
       let x : (12 + 4 * side) % 2 ≡ 0 = omega arith in
       let y : (12 + 4 * side - 12) % 2 ≡ 0 = omega arith in
-      record {
-        known = h;
-        at = by-cases (eqb side 0)
-            (λ t. let z = eqb-true side 0 t in simp (f, t) (omega arith))
-            (λ t. let z : ¬ (side ≡ 0) = eqb-false side 0 t in simp (f, t) (omega arith));
-        even = rw x;
-        within = simp f (rw y);
-      }
+      record { known = h; at = simp f (simp f at side-at); even = rw x; within = simp f (rw y) }
 
   pub sided6 : four p ≡ false → Sided p side (8 + 16 * side)
   unfolding odd
   sided6 f =
       let x : (8 + 16 * side) % 2 ≡ 0 = omega arith in
       let y : (8 + 16 * side - 8) % 2 ≡ 0 = omega arith in
-      record {
-        known = h;
-        at = by-cases (eqb side 0)
-            (λ t. let z = eqb-true side 0 t in simp (f, t) (omega arith))
-            (λ t. let z : ¬ (side ≡ 0) = eqb-false side 0 t in simp (f, t) (omega arith));
-        even = rw x;
-        within = simp f (rw y);
-      }
+      record { known = h; at = simp f (simp f at side-at); even = rw x; within = simp f (rw y) }
 
 -- ---- what is left where d is the change of its bytes
 module _ (p : List ℕ) (side a d : ℕ) (new : List ℕ) (s : Sided p side a) (n : length new ≡ addressSize p)

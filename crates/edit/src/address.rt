@@ -16,6 +16,7 @@ ghost use Rattle.wire.specs.Outer.{four};
 ghost use Rattle.wire.specs.Inner.{silentOf, Holds};
 ghost use Rattle.edit.specs.Rest.{unlessMissing, addressIn};
 
+// Sets the address on a side of a packet with that message.
 pub fn set_side(packet: &mut [u8], m: Message, side: u32, address: &[u8]) -> Verdict
     requires { ⌜ Holds (now packet) m ⌝ }
     ensures { λ r. ⌜ (r, now (packet .exit)) ≡ unlessMissing (now (packet .entry)) (addressIn (now (packet .entry)) side (now (address .entry))) ⌝ }
@@ -33,6 +34,7 @@ pub fn set_side(packet: &mut [u8], m: Message, side: u32, address: &[u8]) -> Ver
     }
 }
 
+// IPv4: the header's field is updated, and the message's where it covers the addresses and is in use.
 fn set4(packet: &mut [u8], m: Message, side: u32, address: &[u8]) -> Verdict
     requires { ⌜ Holds (now packet) m ⌝ }
     requires { ⌜ (four (now packet) ≡ true) × (side ≤ 1) ⌝ }

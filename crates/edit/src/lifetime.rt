@@ -12,6 +12,7 @@ ghost use Rattle.wire.specs.Outer.{four};
 ghost use Rattle.wire.specs.Inner.{Holds};
 ghost use Rattle.edit.specs.Rest.{unlessMissing, lifetimeIn};
 
+// Lowers the lifetime of a packet with that message.
 pub fn lower(packet: &mut [u8], m: Message) -> Verdict
     requires { ⌜ Holds (now packet) m ⌝ }
     ensures { λ r. ⌜ (r, now (packet .exit)) ≡ unlessMissing (now (packet .entry)) (lifetimeIn (now (packet .entry))) ⌝ }

@@ -15,6 +15,7 @@ ghost use Rattle.wire.specs.Inner.{startOf, endOf, bodyOf, Holds};
 ghost use Rattle.kept.specs.Update.{messageAfter};
 ghost use Rattle.edit.specs.Rest.{unlessMissing, stretchIn};
 
+// Sets bytes in the body of a packet with that message.
 pub fn set_within(packet: &mut [u8], m: Message, place: usize, bytes: &[u8]) -> Verdict
     requires { ⌜ Holds (now packet) m ⌝ }
     ensures { λ r. ⌜ (r, now (packet .exit)) ≡ unlessMissing (now (packet .entry)) (stretchIn (now (packet .entry)) place (now (bytes .entry))) ⌝ }

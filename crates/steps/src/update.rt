@@ -11,13 +11,14 @@ ghost use Rattle.wire.specs.Bytes.{wordAt};
 ghost use Rattle.steps.specs.Steps.{Renewed, messagePut};
 
 // What the new bytes' total has more than the old bytes', modulo 65535: one number for every field that covers them.
+// 2 ^ 64 - 1 is a multiple of 65535, so to add a complement is to take away.
 pub fn change(old: u64, new: u64) -> u64
     ensures { λ r. ⌜ (r ≤ 65534) × ((r + old) % 65535 ≡ new % 65535) ⌝ }
 {
     sums::carry(u64::MAX - old, new) % 65535
 }
 
-// A change of bytes that begin at an odd position, or at an even one.
+// A change as it counts where its bytes begin: at an odd position its two bytes are exchanged (RFC 1071, 2 B).
 pub fn aligned(odd: bool, d: u64) -> u64
     requires { ⌜ d ≤ 65534 ⌝ }
     ensures { λ r. ⌜ (r ≡ swapIf odd d) × (r ≤ 65534) ⌝ }
