@@ -11,7 +11,7 @@ use borrow.Author.Tests.{lt-ltb, le-ltb}
 use Rattle.verdicts.specs.declared.Verdict.{Verdict}
 use Rattle.verdicts.specs.declared.Verdict.the-variants.{Good, Spent}
 use Rattle.sums.specs.Total.{odd, weigh}
-use Rattle.sums.specs.Fold.{fold, swap}
+use Rattle.sums.specs.Fold.{swap}
 use Rattle.sums.specs.Partials.{swapIf}
 use Rattle.sums.proofs.Folds.{mod-in}
 use Rattle.wire.specs.Bytes.{byteAt, wordAt, part, put, putWord}
@@ -25,13 +25,11 @@ use Rattle.steps.specs.Steps.{Change, Renewed, messagePut}
 use Rattle.steps.proofs.Changes.{changes}
 use Rattle.edit.specs.Rest.{lifetimeIn}
 
--- ---- the change of the bytes from a, by totals s and t of the n old ones and of the new ones
-pub part-changes : (p : List ℕ) (a n s t d : ℕ) (new : List ℕ) → n ≡ length new → fold s ≡ fold (0 + weigh true (part p a (a + n - a)))
-    → fold t ≡ fold (0 + weigh true new) → (d + s) % 65535 ≡ t % 65535
+-- ---- the change of the bytes from a, n old ones for new ones
+pub part-changes : (p : List ℕ) (a n d : ℕ) (new : List ℕ) → n ≡ length new
+    → (d + weigh true (part p a (a + n - a))) % 65535 ≡ weigh true new % 65535
     → (o : Bool) → Change (swapIf o d) (weigh o (part p a (length new))) (weigh o new)
-part-changes p a n s t d new l es =
-    let e : a + n - a ≡ length new = omega arith in
-    changes (part p a (length new)) new s t d (rw e at es)
+part-changes p a n d new l e = let k : a + n - a ≡ length new = omega arith in changes (part p a (length new)) new d (rw k at e)
 
 -- ---- the fields, where d is that change, and pos the bytes' position in the covered block
 module _ (p : List ℕ) (pos a d : ℕ) (new : List ℕ) (k : Change d (weigh (odd pos) (part p a (length new))) (weigh (odd pos) new)) where
@@ -76,13 +74,13 @@ module _ (p : List ℕ) where
       ∙ sym (simp (f, le-ltb))
 
 -- ---- the stretch, whose change is c where its first byte stands at an even position
-pub stretch-made : {p : List ℕ} {m : Message} → Holds p m → (a : ℕ) (new : List ℕ) (s t c d v : ℕ)
-    → fold s ≡ fold (0 + weigh true (part p a (a + length new - a))) → fold t ≡ fold (0 + weigh true new) → (c + s) % 65535 ≡ t % 65535
+pub stretch-made : {p : List ℕ} {m : Message} → Holds p m → (a : ℕ) (new : List ℕ) (c d v : ℕ)
+    → (c + weigh true (part p a (a + length new - a))) % 65535 ≡ weigh true new % 65535
     → d ≡ swapIf (eqb ((a - m .start) % 2) 1) c → Renewed (eqb (m .protocol) 17) (wordAt p (m .field)) d v
     → (quiet : Bool) → quiet ≡ (eqb (m .protocol) 17 && eqb (wordAt p (m .field)) 0)
     → (q r : List ℕ) → q ≡ put p a new → r ≡ messagePut quiet (m .field) q v → r ≡ messageAfter p (a - startOf p) a new (put p a new)
 unfolding odd
-stretch-made {p} {m} h a new s t c d v es et e ed rn quiet eq q r ep er =
+stretch-made {p} {m} h a new c d v e ed rn quiet eq q r ep er =
     let z : d ≡ swapIf (odd (a - startOf p)) c = ed ∙ ap (λ (x : ℕ). swapIf (odd (a - x)) c) (ap (λ (x : Message). x .start) (h .is)) in
     er ∙ ap (λ (l : List ℕ). messagePut quiet (m .field) l v) ep
-    ∙ message-made p (a - startOf p) a d new (rw z (part-changes p a (length new) s t c new refl es et e (odd (a - startOf p)))) h v quiet eq rn (put p a new)
+    ∙ message-made p (a - startOf p) a d new (rw z (part-changes p a (length new) c new refl e (odd (a - startOf p)))) h v quiet eq rn (put p a new)

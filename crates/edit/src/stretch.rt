@@ -1,7 +1,7 @@
 // A stretch of the body set in a packet whose shape is right.
 use steps::aligned;
 use steps::blanks;
-use steps::change;
+use steps::change_of;
 use steps::missing;
 use steps::put_message;
 use steps::renewed;
@@ -50,10 +50,7 @@ fn put_stretch(packet: &mut [u8], m: Message, at: usize, bytes: &[u8])
 {
     let end = at + bytes.len();
     let odd = (at - m.start) % 2 == 1;
-    let d = aligned(
-        odd,
-        change(sums::total(&packet[at..end], 0), sums::total(bytes, 0)),
-    );
+    let d = aligned(odd, change_of(&packet[at..end], bytes));
     let message = renewed(packet, m.field, d, m.protocol == wire::UDP);
     let quiet = wire::silent(packet, m);
     wire::put_bytes(packet, at, bytes);

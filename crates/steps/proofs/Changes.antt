@@ -28,23 +28,23 @@ pub fold-alike : (a b : ℕ) → fold a ≡ fold b → a % 65535 ≡ b % 65535
 fold-alike a b e = sym (fold-mod a) ∙ ap (λ n. n % 65535) e ∙ fold-mod b
 
 -- ---- a change, by any totals that have the folds of the old bytes' and the new bytes'
-module _ (old new : List ℕ) (s t d : ℕ) (es : fold s ≡ fold (0 + weigh true old)) (et : fold t ≡ fold (0 + weigh true new))
-    (e : (d + s) % 65535 ≡ t % 65535) where
-  low-change : (d + weigh true old) % 65535 ≡ weigh true new % 65535
-  low-change =
-      let o = weigh true old in
-      let n = weigh true new in
-      mod-plus d d o s refl (sym (fold-alike s o (es ∙ ap fold (zero-add o)))) ∙ e ∙ fold-alike t n (et ∙ ap fold (zero-add n))
+pub low-change : (old new : List ℕ) (s t d : ℕ) → fold s ≡ fold (0 + weigh true old) → fold t ≡ fold (0 + weigh true new)
+    → (d + s) % 65535 ≡ t % 65535 → (d + weigh true old) % 65535 ≡ weigh true new % 65535
+low-change old new s t d es et e =
+    let o = weigh true old in
+    let n = weigh true new in
+    mod-plus d d o s refl (sym (fold-alike s o (es ∙ ap fold (zero-add o)))) ∙ e ∙ fold-alike t n (et ∙ ap fold (zero-add n))
 
-  -- bytes at an even position, and at an odd one
-  pub changes : (odd : Bool) → Change (swapIf odd d) (weigh odd old) (weigh odd new)
-  changes false =
-      mod-plus d d (256 * weigh false old) (weigh true old) refl (sym (other-mod false old)) ∙ low-change ∙ other-mod false new
-  changes true =
-      let x = weigh true old in
-      let y = weigh true new in
-      let k = mod-out (d + x) y low-change in
-      mod-in (swap d + 256 * x) (256 * y) (d / 256 + 256 * (y / 65535)) (256 * ((d + x) / 65535)) (omega arith)
+-- bytes at an even position, and at an odd one
+pub changes : (old new : List ℕ) (d : ℕ) → (d + weigh true old) % 65535 ≡ weigh true new % 65535
+    → (odd : Bool) → Change (swapIf odd d) (weigh odd old) (weigh odd new)
+changes old new d e false =
+    mod-plus d d (256 * weigh false old) (weigh true old) refl (sym (other-mod false old)) ∙ e ∙ other-mod false new
+changes old new d e true =
+    let x = weigh true old in
+    let y = weigh true new in
+    let k = mod-out (d + x) y e in
+    mod-in (swap d + 256 * x) (256 * y) (d / 256 + 256 * (y / 65535)) (256 * ((d + x) / 65535)) (omega arith)
 
 -- ---- a field, of whose class modulo 65535 the update u is the one number under FFFF
 as-other : (w u : ℕ) → w ≤ 65534 → swap w % 65535 ≡ u → swap w ≡ u

@@ -6,6 +6,7 @@ mod update;
 pub use blank::blanks;
 pub use update::aligned;
 pub use update::change;
+pub use update::change_of;
 pub use update::put_message;
 pub use update::raised;
 pub use update::renewed;

@@ -18,6 +18,13 @@ pub fn change(old: u64, new: u64) -> u64
     sums::carry(u64::MAX - old, new) % 65535
 }
 
+// The same of two stretches: the complement of the one's total is what the other's begins with.
+pub fn change_of(old: &[u8], new: &[u8]) -> u64
+    ensures { λ r. ⌜ (r ≤ 65534) × ((r + weigh true (now (old .entry))) % 65535 ≡ weigh true (now (new .entry)) % 65535) ⌝ }
+{
+    sums::total(new, u64::MAX - sums::total(old, 0)) % 65535
+}
+
 // A change as it counts where its bytes begin: at an odd position its two bytes are exchanged (RFC 1071, 2 B).
 pub fn aligned(odd: bool, d: u64) -> u64
     requires { ⌜ d ≤ 65534 ⌝ }

@@ -10,6 +10,7 @@ use Rattle.sums.specs.Total.{weigh}
 use Rattle.wire.specs.Bytes.{part}
 use Rattle.wire.specs.Outer.{addressSize}
 use Rattle.steps.specs.Steps.{Change}
+use Rattle.steps.proofs.Changes.{low-change}
 use Rattle.steps.proofs.Common.{Known, known}
 use Rattle.edit.proofs.Made.{part-changes}
 use Rattle.edit.proofs.Sides.{Sided, other-size, sided4, plain4, message4}
@@ -45,8 +46,8 @@ long c = c .before .before .before .before .before .if1 .left
 changed : (c : tie.After-change) → let a = entry c in Change (c .change .result) (weigh false (part (P a) (A a) (length (N a)))) (weigh false (N a))
 changed c =
     let a = entry c in
-    part-changes (P a) (A a) 4 _ _ _ (N a) (sym (long c))
-    (c .before .before .total-4 .ensures) (c .before .total-42 .ensures) (c .change .ensures .1) false
+    part-changes (P a) (A a) 4 _ (N a) (sym (long c))
+    (low-change _ _ _ _ _ (c .before .before .total-4 .ensures) (c .before .total-42 .ensures) (c .change .ensures .1)) false
 
 -- there, seen from where the fields are
 abbrev counted : tie.After-silent → tie.After-change

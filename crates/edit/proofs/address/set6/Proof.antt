@@ -6,6 +6,7 @@ use mathlib.Core.Bool.{false}
 use mathlib.Core.List.{List}
 use denote.Ref.{now}
 use Rattle.wire.specs.Outer.{addressSize, headerEnd}
+use Rattle.steps.proofs.Changes.{low-change}
 use Rattle.steps.proofs.Common.{Known, known}
 use Rattle.edit.proofs.Made.{part-changes}
 use Rattle.edit.proofs.Sides.{other-size, sided6, message6}
@@ -54,8 +55,8 @@ returns-2 c =
     let d = r .before .before .before in
     let n = d .before .before .before .before .before .if1 .left in
     let a = entry d in
-    let k = part-changes (P a) (8 + 16 * a .args .side) 16 _ _ _ (N a) (sym n)
-    (d .before .before .total-16 .ensures) (d .before .total-162 .ensures) (d .change .ensures .1) false in
+    let k = part-changes (P a) (8 + 16 * a .args .side) 16 _ (N a) (sym n)
+    (low-change _ _ _ _ _ (d .before .before .total-16 .ensures) (d .before .total-162 .ensures) (d .change .ensures .1)) false in
     message6 (P a) (a .args .side) _ _ (N a) (sided6 (P a) (a .args .side) (a .pre .1 .2) (a .pre .1 .0)) (n ∙ sym (size a)) k
     (a .pre .1 .0) (a .pre .1 .1) (a .pre .0) _ (r .renewed .ensures) _ _ (w .put-16 .ensures) (l .put-low .ensures)
 

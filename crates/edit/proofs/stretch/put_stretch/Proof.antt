@@ -12,7 +12,7 @@ places c = known (c .pre .0)
 
 -- the entry, seen from where the change is known
 abbrev entry : tie.After-aligned → tie.Start
-entry c = c .before .before .before .before .before .before .before .before .before
+entry c = c .before .before .before .before .before .before .before
 
 put-bytes-requires : tie.Need-put-bytes-requires
 put-bytes-requires c κs =
@@ -36,8 +36,7 @@ returns c =
     let r = s .before .before in
     let d = r .before .before .before in
     let a = entry d in
-    stretch-made (a .pre .0) (a .args .at) (now (a .args .bytes)) _ _ _ _ _
-    (d .before .before .before .total .ensures) (d .before .before .total2 .ensures) (d .before .change .ensures .1) (d .aligned .ensures .0)
+    stretch-made (a .pre .0) (a .args .at) (now (a .args .bytes)) _ _ _ (d .before .change-of .ensures .1) (d .aligned .ensures .0)
     (r .renewed .ensures) _ (s .silent .ensures) _ _ (w .put-bytes .ensures) (g .put-message .ensures)
 
 pub put-stretch-spec : {M : Type 1} → statement M
@@ -49,8 +48,6 @@ put-stretch-spec =
     (λ c. search needs)
     (λ c. search needs)
     (λ c. let a = c .before .before .before .before in let k = places a in let r = a .pre .1 in omega arith)
-    (λ c κs. search needs)
-    (λ c κs. search needs)
     (λ c κs. search needs)
     (λ c κs. search needs)
     (λ c κs. let d = c .before .before in let k = places (entry d) in (omega arith, d .aligned .ensures .1))
