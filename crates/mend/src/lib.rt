@@ -12,7 +12,7 @@ use wire::Message;
 use wire::Part;
 ghost use mathlib.Core.Path.{_≡_};
 ghost use mathlib.Core.Bool.{true, _&&_};
-ghost use Prim.Native.Nat.{_+_, _*_, _%_, _≤_};
+ghost use Prim.Native.Nat.{_+_, _%_, _≤_};
 ghost use lib.Dec.{eqb};
 ghost use lib.ListN.{length};
 ghost use Rattle.sums.specs.Total.{weigh, total};
@@ -160,7 +160,7 @@ fn blank(packet: &[u8], m: Message) -> bool
     let start = m.start;
     let field = m.field;
     let after = field + 2;
-    let end = m.end;
+    let stop = m.end;
     let before = sums::total(&packet[start..field], 0);
-    sums::total(&packet[after..end], before) == 0
+    sums::total(&packet[after..stop], before) == 0
 }

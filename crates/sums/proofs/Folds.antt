@@ -1,5 +1,5 @@
 -- Laws of the fold. `fold-as` opens it as one expression, from which omega has most of the rest.
-use Prim.Native.Nat.{ℕ, zero, suc, _+_, _*_, _-_, _/_, _%_, _≤_, _<_}
+use Prim.Native.Nat.{ℕ, zero, suc, _+_, _*_, _-_, _/_, _%_, _≤_}
 use mathlib.Core.Path.{_≡_, refl, sym, ap, ap₂, _∙_}
 use native.Mathlib.Nat.{add-mul-mod-self-left}
 use native.Mathlib.Omega.{arith}
@@ -58,11 +58,6 @@ fold-fold a = omega (arith, fold-as (fold a), fold-as a)
 
 pub fold-fixed : (a : ℕ) → a ≤ 65535 → fold a ≡ a
 fold-fixed a h = omega (arith, fold-as a)
-
--- a sum that goes past 2 ^ 64 - 1, less 2 ^ 64 - 1
-pub fold-carry : (a b : ℕ) → b ≤ 18446744073709551615 → 18446744073709551615 - b < a → fold (a - (18446744073709551615 - b)) ≡ fold (a + b)
-fold-carry a b g h =
-    sym (ap fold (omega arith) ∙ fold-turns (a - (18446744073709551615 - b)) 281479271743489 (λ z. omega arith))
 
 -- 256 times a total has the fold with its bytes exchanged
 pub fold-times : (t : ℕ) → fold (256 * t) ≡ swap (fold t)

@@ -5,7 +5,7 @@
 // two bytes of a fold (RFC 1071, 2 B), so nothing is exchanged on the way.
 ghost use mathlib.Core.Path.{_≡_};
 ghost use mathlib.Core.Bool.{true};
-ghost use Prim.Native.Nat.{_+_, _*_, _-_, _%_, _≤_, _<_};
+ghost use Prim.Native.Nat.{_+_, _-_, _%_, _≤_, _<_};
 ghost use lib.ListN.{length};
 ghost use Rattle.sums.specs.Total.{weigh};
 ghost use Rattle.sums.specs.Fold.{fold};

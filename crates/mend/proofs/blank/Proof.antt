@@ -1,16 +1,12 @@
 -- What stands before the field, and what follows it.
-use mathlib.Core.Path.{_≡_, _∙_, ap, ap₂}
-use Prim.Native.Nat.{ℕ, _+_, _-_}
+use mathlib.Core.Path.{_≡_, _∙_, ap}
+use Prim.Native.Nat.{ℕ}
 use native.Mathlib.Nat.{zero-add}
 use native.Mathlib.Omega.{arith}
 use mathlib.Core.List.{List}
-use lib.Dec.{eqb}
 use denote.Ref.{now}
-use Rattle.sums.specs.Total.{total}
 use Rattle.sums.specs.Fold.{fold}
-use Rattle.wire.specs.Bytes.{part, putWord}
 use Rattle.wire.specs.Inner.{startOf, endOf, fieldAt}
-use Rattle.wire.specs.declared.Message.{Message}
 use Rattle.wire.proofs.Facts.{Facts}
 use Rattle.wire.proofs.Held.{held-facts}
 use Rattle.mend.proofs.Numbers.{zero-low}

@@ -43,12 +43,13 @@ returns c =
     let b = d .before .before .before .before .before in
     let f = held-facts (b .pre .0) in
     let e = end b in
-    let r = c .field-low .ensures in
-    (omega (arith, r .0),
-    header-without (P b) f _ _
-    (without-low (P b) 0 headerField (b .args .m .header) (omega arith) (omega arith) (omega arith) (omega arith) _ _
-    (d .before .before .before-field .ensures) (d .after-field .ensures)
-    ∙ ap (λ (n : ℕ). fold (256 * total (part (putWord (P b) headerField 0) 0 (n - 0)))) e) (r .0) (r .1))
+    let r = c .field-low .ensures in (
+      omega (arith, r .0),
+      header-without (P b) f _ _
+          (without-low (P b) 0 headerField (b .args .m .header) (omega arith) (omega arith) (omega arith) (omega arith) _ _
+          (d .before .before .before-field .ensures) (d .after-field .ensures)
+          ∙ ap (λ (n : ℕ). fold (256 * total (part (putWord (P b) headerField 0) 0 (n - 0)))) e) (r .0) (r .1),
+    )
 
 pub fresh-header-spec : {M : Type 1} → statement M
 fresh-header-spec =

@@ -6,10 +6,8 @@ use mathlib.Core.List.{List}
 use denote.Ref.{now}
 use Rattle.verdicts.specs.declared.Verdict.{Verdict}
 use Rattle.wire.specs.Outer.{outerOf, fragmentOf}
-use Rattle.wire.specs.Inner.{innerOf}
 use Rattle.wire.specs.declared.Header.{Header}
 use Rattle.wire.specs.declared.Frame.the-variants.{Ip}
-use Rattle.wire.specs.declared.Part.{Part}
 use Rattle.wire.proofs.Held.{by-whole, headed, held-inner, refused-outer, split-whole, inner-whole}
 use Rattle.mend.specs.Mend.{mendOf}
 use borrow.Author.Needs.{needs}

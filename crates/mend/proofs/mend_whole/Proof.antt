@@ -1,6 +1,5 @@
 -- Both fields are set, one after the other.
 use mathlib.Core.Path.{_∙_, refl, ap}
-use denote.Ref.{now}
 use Rattle.wire.proofs.Same.{holds-same}
 use Rattle.wire.proofs.Held.{held-facts}
 use Rattle.mend.specs.Mend.{mendedMessage}

@@ -1,6 +1,6 @@
 -- Twice two numbers.
 use Prim.Native.Nat.{_+_}
-use mathlib.Core.Path.{ap, _∙_}
+use mathlib.Core.Path.{_∙_}
 use native.Mathlib.Omega.{arith}
 use denote.Ref.{now}
 use Rattle.sums.proofs.Rests.{more-none}
