@@ -1,26 +1,17 @@
+-- The number is its definition.
 use Rattle.sums.specs.Low.{eightAt}
 use borrow.Author.Needs.{needs}
 use Rattle.sums.proofs.low.le8.Statement.{statement}
 use Rattle.sums.proofs.low.le8.Tie as tie
 
-le4-requires : tie.Need-le4-requires
-le4-requires c κs = search needs
-
-add-le4 : tie.Need-add-le4
-add-le4 c = search needs
-
-le4-requires-2 : tie.Need-le4-requires-2
-le4-requires-2 c κs = search needs
-
-mul-result : tie.Need-mul-result
-mul-result c = search needs
-
-add-result : tie.Need-add-result
-add-result c = search needs
-
-returns : tie.Need-returns
-unfolding eightAt
-returns c = search needs
-
 pub le8-spec : {M : Type 1} → statement M
-le8-spec = tie.close (tie.spec le4-requires add-le4 le4-requires-2 mul-result add-result returns)
+unfolding eightAt
+le8-spec =
+    tie.close
+    (tie.spec
+    (λ c κs. search needs)
+    (λ c. search needs)
+    (λ c κs. search needs)
+    (λ c. search needs)
+    (λ c. search needs)
+    (λ c. search needs))
