@@ -38,12 +38,12 @@ static const struct {
     {"", &ours},
 #ifndef ONLY_OURS
     {"cc: ", plain_cc},           {"cc: ", plain_cc + 1},       {"cc: ", plain_cc + 2},
-    {"cc: ", plain_cc + 3},       {"cc: ", &c_cc},              {"cc: ", &adc_cc},
-    {"cc: ", &sse2_cc},
+    {"cc: ", plain_cc + 3},       {"cc: ", &once_cc},           {"cc: ", &copies_cc},
+    {"cc: ", &adc_cc},            {"cc: ", &sse2_cc},
 #ifdef CLANG
     {"clang: ", plain_clang},     {"clang: ", plain_clang + 1}, {"clang: ", plain_clang + 2},
-    {"clang: ", plain_clang + 3}, {"clang: ", &c_clang},        {"clang: ", &adc_clang},
-    {"clang: ", &sse2_clang},
+    {"clang: ", plain_clang + 3}, {"clang: ", &once_clang},     {"clang: ", &copies_clang},
+    {"clang: ", &adc_clang},      {"clang: ", &sse2_clang},
 #endif
 #endif
 };

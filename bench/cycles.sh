@@ -2,10 +2,12 @@
 # Prints cycles for nine calls, the library's and those of the C that makes the same tests, as llvm-mca estimates them
 # for two processors. It is given the instructions that were executed, in their order, call after call.
 #
-#   cycles.sh PROGRAM [BEFORE]   what run.sh made of bench.c, and the same with the library as it was before
+#   cycles.sh COLUMNS PROGRAM [BEFORE]   the table's columns; what run.sh made of bench.c, and the same with the
+#                                        library as it was before
 set -eu
 cd "$(dirname "$0")/.."
-out=target/bench turns=50
+out=target/bench turns=50 columns=$1
+shift
 
 if ! command -v llvm-mca >/dev/null || ! command -v llvm-objdump >/dev/null; then
     echo "Cycles aren't estimated: there is no llvm-mca here (Debian's llvm has it)."
@@ -64,13 +66,10 @@ estimate() { # PROCESSOR
         /^Total Cycles:/ { printf "%s | %.0f\n", name, $3 / turns }'
 }
 
-columns='ours;cc: C;cc: adc;cc: SSE2'
 regions "$1" >$out/executed.s
-! grep -q clang $out/nine || columns="$columns;clang: C;clang: adc;clang: SSE2"
 if [ $# -eq 2 ]; then
     regions "$2" >$out/before.s
     sed 's/^\(# LLVM-MCA-BEGIN .*\)_ours$/\1_before/' $out/before.s >>$out/executed.s
-    columns="ours;before${columns#ours}"
 fi
 model=$(llvm-mca --version | sed -n 's/.*LLVM version/LLVM/p')
 echo "Cycles for each call, estimated by llvm-mca ($model). This is a model and no measurement: every load is met in"

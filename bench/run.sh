@@ -28,10 +28,13 @@ objects='' compilers=cc
 {
     for by in $compilers; do
         $x86 "$by" -O2 $flags -DBY="plain_$by" -c bench/ways.c -o "$out/plain-$by.o"
-        $x86 "$by" -O3 $flags -DBY="c_$by" -DKIND=PLAIN -c bench/same.c -o "$out/c-$by.o"
-        $x86 "$by" -O3 $flags -DBY="adc_$by" -DKIND=CHAINS -c bench/same.c -o "$out/adc-$by.o"
-        $x86 "$by" -O3 $flags -DBY="sse2_$by" -DKIND=VECTORS -c bench/same.c -o "$out/sse2-$by.o"
-        objects="$objects $out/plain-$by.o $out/c-$by.o $out/adc-$by.o $out/sse2-$by.o"
+        objects="$objects $out/plain-$by.o"
+        for way in once:ONCE:PLAIN copies:COPIES:PLAIN adc:COPIES:CHAINS sse2:COPIES:VECTORS; do
+            name=${way%%:*} kind=${way##*:} shape=${way#*:}
+            $x86 "$by" -O3 $flags -DBY="${name}_$by" -DSHAPE="${shape%:*}" -DKIND="$kind" -c bench/same.c \
+                -o "$out/$name-$by.o"
+            objects="$objects $out/$name-$by.o"
+        done
     done
     clang=
     [ "$compilers" = cc ] || clang=-DCLANG
@@ -44,11 +47,12 @@ table() { # KIND COLUMNS
 }
 
 # the columns' names
-plain='' same=''
+plain='' once='' copies=''
 for by in $compilers; do
     plain="$plain;$by: RFC 1071 loop;$by: 64-bit loop;$by: DPDK shape;$by: RFC 1624 by hand"
-    same="$same;$by: C;$by: adc;$by: SSE2"
+    once="$once;$by: once" copies="$copies;$by: copies"
 done
+same="$once$copies;adc;SSE2"
 
 commit=$(git rev-parse --short HEAD 2>/dev/null) || commit=unknown
 git diff --quiet HEAD -- crates crates.txt 2>/dev/null || commit="$commit, with changes"
@@ -77,8 +81,10 @@ echo "Beside C that serves UDP alone and tests less:"
 echo
 table plain "ours$before$plain" <$out/calls
 echo
-echo "Beside C that makes the same tests in the same order, for all protocols and families, everything inlined. Its sum"
-echo "is C; or chains of add-with-carry (adc), which are assembly; or SSE2 for long strings, and chains for short ones:"
+echo "Beside C that makes the same tests in the same order, for all protocols and families, everything inlined: with its"
+echo "work once for all of them, as ours is written; and with copies of it for each. The copies' sum is C as well; or"
+echo "chains of add-with-carry (adc), which are assembly; or SSE2 for long strings and chains for short ones. Of these two"
+echo "the better compiler's is shown. 'C' is the best without assembly, and 'best' of all:"
 echo
 table same "ours$before$same" <$out/calls
 
@@ -96,17 +102,17 @@ fi
 
 echo
 # shellcheck disable=SC2086
-bench/cycles.sh $out/bench $old
+bench/cycles.sh "ours$before$same" $out/bench $old
 
 echo
 if $x86 native; then
     $x86 run $out/bench times >$out/times
-    echo "Nanoseconds for each call of ours, and how many times as long the others take (best of 3,000 batches, in"
-    echo "turns; $(sed -n 's/^model name[^:]*: *//p' /proc/cpuinfo | head -n 1)):"
+    echo "Nanoseconds for each call (best of 3,000 batches, in turns;"
+    echo "$(sed -n 's/^model name[^:]*: *//p' /proc/cpuinfo | head -n 1)):"
     echo
-    table times "ours$plain" <$out/times
+    table plain "ours$plain" <$out/times
     echo
-    table times "ours$same" <$out/times
+    table same "ours$same" <$out/times
 else
     echo "Times are measured on x86-64 alone; this machine is $(uname -m)."
 fi

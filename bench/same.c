@@ -1,28 +1,35 @@
-/* The library's strongest opponent: C that makes the same tests in the same order, for all protocols and families, and
- * so gives the same answers and bytes. Everything is inlined: each protocol has its own copy of each call, and an IPv4
- * header of 20 bytes its own copy again. `bench same` holds all of it to the library.
+/* The library's strongest opponents: C that makes the same tests in the same order, for all protocols and families, and
+ * so gives the same answers and bytes. Everything is inlined. `bench same` holds all of it to the library.
  *
- * BY is the name of the way that this becomes, and KIND that of its sum. */
+ * SHAPE is ONCE, as libraries are written and as ours is: what is found is handed on as values, and what follows stands
+ * once for all protocols and families. Or it is COPIES: each protocol of each family has its own copy of all that
+ * follows, and an IPv4 header of 20 bytes its own copies again. KIND is that of the sums, and BY the name of the way
+ * that this becomes. */
 #include "sums.h"
 #include "ways.h"
 
 enum { ICMP = 1, TCP = 6, UDP = 17, ICMP6 = 58 };
 
-/* What is asked besides the packet: a side or place, and new bytes. */
-struct ask {
-    size_t number, len;
-    const uint8_t *bytes;
-};
+#define ONCE 0
+#define COPIES 1
 
-/* A message whose shape is right, and where its body begins. The first four are constants in each copy, and so is the
+/* A message, as far as it is known, and where its body begins. The first four are constants in each copy, and so is the
  * header's length but for one copy. */
 struct message {
     int family, protocol;
     size_t fixed, field, header, len, body;
 };
 
-/* What a call does once the shape is known. */
+/* What is asked besides the packet: a side or place, and new bytes; and where a message is handed on. */
+struct ask {
+    size_t number, len;
+    const uint8_t *bytes;
+    struct message *found;
+};
+
+/* What a call does once the shape is known, and what follows once the IP header is. */
 typedef uint8_t work(uint8_t *p, struct message m, struct ask ask);
+typedef uint8_t rest(work *then, uint8_t *p, struct message m, struct ask ask);
 
 /* The layout */
 
@@ -37,30 +44,29 @@ EACH uint8_t inner(work *then, uint8_t *p, struct message m, struct ask ask)
         if (RARE(m.body < 20 || m.body > m.len))
             return 4;
     }
-    /* IPv6 has declared the same number in the same byte order */
-    if (m.protocol == UDP && m.family == 4 && RARE(number(message + 4) != m.len))
-        return 4;
-    if (m.protocol == UDP && m.family == 6 && RARE(two(message + 4) != two(p + 4)))
+    /* IPv6 has declared the same number in the same byte order, which is of use where the family is known */
+    int declared = SHAPE == COPIES && m.family == 6;
+    if (m.protocol == UDP && RARE(declared ? two(message + 4) != two(p + 4) : number(message + 4) != m.len))
         return 4;
     return then(p, m, ask);
 }
 
-EACH uint8_t covered(work *then, uint8_t *p, int family, size_t header, size_t len, struct ask ask)
+/* A message whose header, length, protocol and family are known. */
+EACH uint8_t covered(work *then, uint8_t *p, struct message m, struct ask ask)
 {
-    unsigned protocol = p[family == 4 ? 9 : 6];
-    if (__builtin_expect(protocol == UDP, 1))
-        return inner(then, p, (struct message){family, UDP, 8, 6, header, len, 0}, ask);
-    if (protocol == TCP)
-        return inner(then, p, (struct message){family, TCP, 20, 16, header, len, 0}, ask);
-    if (family == 4 && protocol == ICMP)
-        return inner(then, p, (struct message){family, ICMP, 8, 2, header, len, 0}, ask);
-    if (family == 6 && protocol == ICMP6)
-        return inner(then, p, (struct message){family, ICMP6, 4, 2, header, len, 0}, ask);
+    if (__builtin_expect(m.protocol == UDP, 1))
+        return inner(then, p, (struct message){m.family, UDP, 8, 6, m.header, m.len, 0}, ask);
+    if (m.protocol == TCP)
+        return inner(then, p, (struct message){m.family, TCP, 20, 16, m.header, m.len, 0}, ask);
+    if (m.family == 4 && m.protocol == ICMP)
+        return inner(then, p, (struct message){m.family, ICMP, 8, 2, m.header, m.len, 0}, ask);
+    if (m.family == 6 && m.protocol == ICMP6)
+        return inner(then, p, (struct message){m.family, ICMP6, 4, 2, m.header, m.len, 0}, ask);
     return 7;
 }
 
 /* An IPv4 header of which 20 bytes are there. */
-EACH uint8_t outer4(work *then, int judging, uint8_t *p, size_t len, size_t header, struct ask ask)
+EACH uint8_t outer4(rest *next, work *then, int judging, uint8_t *p, size_t len, size_t header, struct ask ask)
 {
     /* a declared length below the header's wraps, and is then too much too */
     size_t message = (size_t)number(p + 2) - header;
@@ -75,24 +81,24 @@ EACH uint8_t outer4(work *then, int judging, uint8_t *p, size_t len, size_t head
     }
     if (RARE(two(p + 6) & 0xFF3F))
         return 6;
-    return covered(then, p, 4, header, message, ask);
+    return next(then, p, (struct message){4, p[9], 0, 0, header, message, 0}, ask);
 }
 
 /* Finds the message, or the first refusal. Only a judge looks at the header's sum. */
-EACH uint8_t layout(work *then, int judging, uint8_t *p, size_t len, struct ask ask)
+EACH uint8_t outer(rest *next, work *then, int judging, uint8_t *p, size_t len, struct ask ask)
 {
     if (RARE(len < 20)) {
         if (len == 0)
             return 2;
         return p[0] >> 4 == 4 || p[0] >> 4 == 6 ? 2 : 3;
     }
-    if (p[0] == 0x45)
-        return outer4(then, judging, p, len, 20, ask);
+    if (SHAPE == COPIES && p[0] == 0x45)
+        return outer4(next, then, judging, p, len, 20, ask);
     if (p[0] >> 4 == 6) {
         size_t message = number(p + 4);
         if (RARE(len < 40) || RARE(message > len - 40))
             return 2;
-        return covered(then, p, 6, 40, message, ask);
+        return next(then, p, (struct message){6, p[6], 0, 0, 40, message, 0}, ask);
     }
     if (p[0] >> 4 != 4)
         return 3;
@@ -101,8 +107,37 @@ EACH uint8_t layout(work *then, int judging, uint8_t *p, size_t len, struct ask 
         return 4;
     if (len < header)
         return number(p + 2) < header ? 4 : 2;
-    return outer4(then, judging, p, len, header, ask);
+    return outer4(next, then, judging, p, len, header, ask);
 }
+
+#if SHAPE == ONCE
+EACH uint8_t found(uint8_t *p, struct message m, struct ask ask)
+{
+    (void)p;
+    *ask.found = m;
+    return 0;
+}
+
+EACH uint8_t found_outer(work *then, uint8_t *p, struct message m, struct ask ask)
+{
+    return then(p, m, ask);
+}
+
+EACH uint8_t layout(work *then, int judging, uint8_t *p, size_t len, struct ask ask)
+{
+    struct message m;
+    ask.found = &m;
+    uint8_t refused = outer(found_outer, found, judging, p, len, ask);
+    if (!refused)
+        refused = covered(found, p, m, ask);
+    return refused ? refused : then(p, m, ask);
+}
+#else
+EACH uint8_t layout(work *then, int judging, uint8_t *p, size_t len, struct ask ask)
+{
+    return outer(covered, then, judging, p, len, ask);
+}
+#endif
 
 /* Sums */
 
@@ -281,7 +316,7 @@ EACH uint8_t stretched(uint8_t *p, struct message m, struct ask ask)
 
 /* The calls */
 
-static const struct ask none = {0, 0, 0};
+static const struct ask none = {0, 0, 0, 0};
 
 static uint16_t field(const uint8_t *bytes, size_t len)
 {
@@ -306,15 +341,16 @@ static uint8_t lower(uint8_t *packet, size_t len)
 
 static uint8_t address(uint8_t *packet, size_t len, uint32_t side, const uint8_t *bytes, size_t bytes_len)
 {
-    return layout(addressed, 0, packet, len, (struct ask){side, bytes_len, bytes});
+    return layout(addressed, 0, packet, len, (struct ask){side, bytes_len, bytes, 0});
 }
 
 static uint8_t stretch(uint8_t *packet, size_t len, size_t place, const uint8_t *bytes, size_t bytes_len)
 {
-    return layout(stretched, 0, packet, len, (struct ask){place, bytes_len, bytes});
+    return layout(stretched, 0, packet, len, (struct ask){place, bytes_len, bytes, 0});
 }
 
 static const struct way way = {
-    KIND == PLAIN ? "C" : KIND == CHAINS ? "adc" : "SSE2", field, 0, judge, mend, lower, address, stretch,
+    SHAPE == ONCE ? "once" : KIND == PLAIN ? "copies" : KIND == CHAINS ? "adc" : "SSE2",
+    field, 0, judge, mend, lower, address, stretch,
 };
 const struct way *const BY = &way;

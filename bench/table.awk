@@ -1,10 +1,9 @@
 # Prints lines 'operation | packet | column | value' as a table. columns has the names, with ; between them. kind is
-# plain (the values), same (the values, then ours over the best C without assembly and over the best of all), or times
-# (ours, and the others as multiples of ours). Rows in which no column but ours and before has a value are left out.
+# plain (the values) or same (the values, then ours over the best C whose work stands once, over the best C without
+# assembly, and over the best of all). A column adc or SSE2 has the better of both compilers. Rows in which no column but
+# ours and before has a value are left out, and equal rows of an operation are joined.
 BEGIN {
     n = split(columns, column, ";")
-    while (column[n] == "")
-        n--
 }
 {
     row = $1 " | " $2
@@ -12,7 +11,10 @@ BEGIN {
         known[row] = 1
         rows[++count] = row
     }
-    value[row, $3] = $4
+    name = $3
+    sub(/^.*: (adc|SSE2)$/, substr(name, length(name) - 2) == "adc" ? "adc" : "SSE2", name)
+    if (!((row, name) in value) || $4 + 0 < value[row, name])
+        value[row, name] = $4
 }
 END {
     head = "| operation | packet |"
@@ -21,27 +23,43 @@ END {
         head = head " " column[c] " |"
         rule = rule "---|"
     }
-    print head (kind == "same" ? " ours / C | ours / best |" : "")
-    print rule (kind == "same" ? "---|---|" : "")
+    print head (kind == "same" ? " ours / once | ours / C | ours / best |" : "")
+    print rule (kind == "same" ? "---|---|---|" : "")
     for (r = 1; r <= count; r++)
         print_row(rows[r])
+    print_joined()
 }
-function print_row(row,    text, best, best_c, others, c, v) {
-    text = "| " row " |"
+
+# The best value of a row in the columns whose names match.
+function least(row, names,    c, v, best) {
     for (c = 1; c <= n; c++) {
         v = value[row, column[c]]
-        if (v != "" && column[c] != "ours" && column[c] != "before") {
-            others++
-            if (best == "" || v + 0 < best)
-                best = v + 0
-            if (column[c] ~ /: C$/ && (best_c == "" || v + 0 < best_c))
-                best_c = v + 0
-            if (kind == "times")
-                v = sprintf("%.2f", v / value[row, "ours"])
-        }
-        text = text " " v " |"
+        if (column[c] ~ names && v != "" && (best == "" || v + 0 < best))
+            best = v + 0
     }
+    return best
+}
+
+# A row is held back until the next one is known to differ. A packet is a kind and a length.
+function print_row(row,    text, c, v) {
+    if (least(row, ": |adc|SSE2") == "")
+        return
+    for (c = 1; c <= n; c++)
+        text = text " " value[row, column[c]] " |"
     v = value[row, "ours"]
-    if (others > 0)
-        print text (kind == "same" ? sprintf(" %.2f | %.2f |", v / best_c, v / best) : "")
+    if (kind == "same")
+        text = text sprintf(" %.2f | %.2f | %.2f |", v / least(row, ": once"), v / least(row, ": (once|copies)"),
+            v / least(row, ": |adc|SSE2"))
+    match(row, / [0-9]+$/)
+    if (substr(row, 1, RSTART - 1) != joined || text != held) {
+        print_joined()
+        joined = substr(row, 1, RSTART - 1)
+        held = text
+        from = substr(row, RSTART + 1)
+    }
+    to = substr(row, RSTART + 1)
+}
+function print_joined() {
+    if (joined != "")
+        print "| " joined " " (from == to ? from : from " to " to) " |" held
 }

@@ -21,8 +21,9 @@ struct way {
 enum { PLAIN_WAYS = 4 };
 extern const struct way *const plain_cc[PLAIN_WAYS], *const plain_clang[PLAIN_WAYS];
 
-/* same.c, by both and with each kind of its sums; it has no chain. */
-extern const struct way *const c_cc, *const adc_cc, *const sse2_cc, *const c_clang, *const adc_clang, *const sse2_clang;
+/* same.c, by both, in each shape and with each kind of its sums; it has no chain. */
+extern const struct way *const once_cc, *const copies_cc, *const adc_cc, *const sse2_cc;
+extern const struct way *const once_clang, *const copies_clang, *const adc_clang, *const sse2_clang;
 
 /* differ.c: stops the program at the first difference between two ways, in answers or in bytes, on packets from a
  * seeded generator. Answers how many calls were compared. */
