@@ -16,7 +16,8 @@ enum { ICMP = 1, TCP = 6, UDP = 17, ICMP6 = 58 };
 /* A message, as far as it is known, and where its body begins. The first four are constants in each copy, and so is the
  * header's length but for one copy. */
 struct message {
-    int family, protocol;
+    int family;
+    unsigned protocol;
     size_t fixed, field, header, len, body;
 };
 
@@ -27,9 +28,8 @@ struct ask {
     struct message *found;
 };
 
-/* What a call does once the shape is known, and what follows once the IP header is. */
+/* What a call does once the shape is known. */
 typedef uint8_t work(uint8_t *p, struct message m, struct ask ask);
-typedef uint8_t rest(work *then, uint8_t *p, struct message m, struct ask ask);
 
 /* The layout */
 
@@ -46,27 +46,36 @@ EACH uint8_t inner(work *then, uint8_t *p, struct message m, struct ask ask)
     }
     /* IPv6 has declared the same number in the same byte order, which is of use where the family is known */
     int declared = SHAPE == COPIES && m.family == 6;
-    if (m.protocol == UDP && RARE(declared ? two(message + 4) != two(p + 4) : number(message + 4) != m.len))
+    if (m.protocol == UDP && !declared && RARE(number(message + 4) != m.len))
+        return 4;
+    if (m.protocol == UDP && declared && RARE(two(message + 4) != two(p + 4)))
         return 4;
     return then(p, m, ask);
 }
 
-/* A message whose header, length, protocol and family are known. */
-EACH uint8_t covered(work *then, uint8_t *p, struct message m, struct ask ask)
+EACH uint8_t covered(work *then, uint8_t *p, int family, unsigned protocol, size_t header, size_t len, struct ask ask)
 {
-    if (__builtin_expect(m.protocol == UDP, 1))
-        return inner(then, p, (struct message){m.family, UDP, 8, 6, m.header, m.len, 0}, ask);
-    if (m.protocol == TCP)
-        return inner(then, p, (struct message){m.family, TCP, 20, 16, m.header, m.len, 0}, ask);
-    if (m.family == 4 && m.protocol == ICMP)
-        return inner(then, p, (struct message){m.family, ICMP, 8, 2, m.header, m.len, 0}, ask);
-    if (m.family == 6 && m.protocol == ICMP6)
-        return inner(then, p, (struct message){m.family, ICMP6, 4, 2, m.header, m.len, 0}, ask);
+    if (__builtin_expect(protocol == UDP, 1))
+        return inner(then, p, (struct message){family, UDP, 8, 6, header, len, 0}, ask);
+    if (protocol == TCP)
+        return inner(then, p, (struct message){family, TCP, 20, 16, header, len, 0}, ask);
+    if (family == 4 && protocol == ICMP)
+        return inner(then, p, (struct message){family, ICMP, 8, 2, header, len, 0}, ask);
+    if (family == 6 && protocol == ICMP6)
+        return inner(then, p, (struct message){family, ICMP6, 4, 2, header, len, 0}, ask);
     return 7;
 }
 
+/* What follows the IP header: a copy of all the rest, or, once, what is known is handed on. */
+EACH uint8_t behind(work *then, uint8_t *p, int family, unsigned protocol, size_t header, size_t len, struct ask ask)
+{
+    if (SHAPE == COPIES)
+        return covered(then, p, family, protocol, header, len, ask);
+    return then(p, (struct message){family, protocol, 0, 0, header, len, 0}, ask);
+}
+
 /* An IPv4 header of which 20 bytes are there. */
-EACH uint8_t outer4(rest *next, work *then, int judging, uint8_t *p, size_t len, size_t header, struct ask ask)
+EACH uint8_t outer4(work *then, int judging, uint8_t *p, size_t len, size_t header, struct ask ask)
 {
     /* a declared length below the header's wraps, and is then too much too */
     size_t message = (size_t)number(p + 2) - header;
@@ -81,11 +90,11 @@ EACH uint8_t outer4(rest *next, work *then, int judging, uint8_t *p, size_t len,
     }
     if (RARE(two(p + 6) & 0xFF3F))
         return 6;
-    return next(then, p, (struct message){4, p[9], 0, 0, header, message, 0}, ask);
+    return behind(then, p, 4, p[9], header, message, ask);
 }
 
 /* Finds the message, or the first refusal. Only a judge looks at the header's sum. */
-EACH uint8_t outer(rest *next, work *then, int judging, uint8_t *p, size_t len, struct ask ask)
+EACH uint8_t outer(work *then, int judging, uint8_t *p, size_t len, struct ask ask)
 {
     if (RARE(len < 20)) {
         if (len == 0)
@@ -93,12 +102,12 @@ EACH uint8_t outer(rest *next, work *then, int judging, uint8_t *p, size_t len, 
         return p[0] >> 4 == 4 || p[0] >> 4 == 6 ? 2 : 3;
     }
     if (SHAPE == COPIES && p[0] == 0x45)
-        return outer4(next, then, judging, p, len, 20, ask);
+        return outer4(then, judging, p, len, 20, ask);
     if (p[0] >> 4 == 6) {
         size_t message = number(p + 4);
         if (RARE(len < 40) || RARE(message > len - 40))
             return 2;
-        return next(then, p, (struct message){6, p[6], 0, 0, 40, message, 0}, ask);
+        return behind(then, p, 6, p[6], 40, message, ask);
     }
     if (p[0] >> 4 != 4)
         return 3;
@@ -107,10 +116,10 @@ EACH uint8_t outer(rest *next, work *then, int judging, uint8_t *p, size_t len, 
         return 4;
     if (len < header)
         return number(p + 2) < header ? 4 : 2;
-    return outer4(next, then, judging, p, len, header, ask);
+    return outer4(then, judging, p, len, header, ask);
 }
 
-#if SHAPE == ONCE
+/* Hands a message on. */
 EACH uint8_t found(uint8_t *p, struct message m, struct ask ask)
 {
     (void)p;
@@ -118,26 +127,18 @@ EACH uint8_t found(uint8_t *p, struct message m, struct ask ask)
     return 0;
 }
 
-EACH uint8_t found_outer(work *then, uint8_t *p, struct message m, struct ask ask)
+/* Does the work of a call on a packet whose shape is right. */
+EACH uint8_t whole(work *then, int judging, uint8_t *p, size_t len, struct ask ask)
 {
-    return then(p, m, ask);
-}
-
-EACH uint8_t layout(work *then, int judging, uint8_t *p, size_t len, struct ask ask)
-{
+    if (SHAPE == COPIES)
+        return outer(then, judging, p, len, ask);
     struct message m;
     ask.found = &m;
-    uint8_t refused = outer(found_outer, found, judging, p, len, ask);
+    uint8_t refused = outer(found, judging, p, len, ask);
     if (!refused)
-        refused = covered(found, p, m, ask);
+        refused = covered(found, p, m.family, m.protocol, m.header, m.len, ask);
     return refused ? refused : then(p, m, ask);
 }
-#else
-EACH uint8_t layout(work *then, int judging, uint8_t *p, size_t len, struct ask ask)
-{
-    return outer(covered, then, judging, p, len, ask);
-}
-#endif
 
 /* Sums */
 
@@ -146,7 +147,7 @@ EACH uint8_t layout(work *then, int judging, uint8_t *p, size_t len, struct ask 
 EACH u64 total(const uint8_t *p, struct message m, u64 t)
 {
     if (m.protocol != ICMP) {
-        t += (u64)(m.len + (size_t)m.protocol) << 8;
+        t += (u64)(m.len + m.protocol) << 8;
         t = m.family == 4 ? add(t, eight(p + 12)) : add_32(t, p + 8);
     }
     return add_bytes(t, p + m.header, m.len);
@@ -326,27 +327,27 @@ static uint16_t field(const uint8_t *bytes, size_t len)
 
 static uint8_t judge(const uint8_t *packet, size_t len)
 {
-    return layout(judged, 1, (uint8_t *)packet, len, none);
+    return whole(judged, 1, (uint8_t *)packet, len, none);
 }
 
 static uint8_t mend(uint8_t *packet, size_t len)
 {
-    return layout(mended, 0, packet, len, none);
+    return whole(mended, 0, packet, len, none);
 }
 
 static uint8_t lower(uint8_t *packet, size_t len)
 {
-    return layout(lowered, 0, packet, len, none);
+    return whole(lowered, 0, packet, len, none);
 }
 
 static uint8_t address(uint8_t *packet, size_t len, uint32_t side, const uint8_t *bytes, size_t bytes_len)
 {
-    return layout(addressed, 0, packet, len, (struct ask){side, bytes_len, bytes, 0});
+    return whole(addressed, 0, packet, len, (struct ask){side, bytes_len, bytes, 0});
 }
 
 static uint8_t stretch(uint8_t *packet, size_t len, size_t place, const uint8_t *bytes, size_t bytes_len)
 {
-    return layout(stretched, 0, packet, len, (struct ask){place, bytes_len, bytes, 0});
+    return whole(stretched, 0, packet, len, (struct ask){place, bytes_len, bytes, 0});
 }
 
 static const struct way way = {
