@@ -153,16 +153,17 @@ EACH u64 total(const uint8_t *p, struct message m, u64 t)
     return add_bytes(t, p + m.header, m.len);
 }
 
+/* What is rare is asked first here and below, and the protocol then. */
 EACH int silent(const uint8_t *p, struct message m)
 {
-    return m.protocol == UDP && two(p + m.header + 6) == 0;
+    return RARE(two(p + m.header + m.field) == 0) && m.protocol == UDP;
 }
 
 /* A field, low byte first, from itself and old - new (RFC 1624). UDP's 0000 is sent as FFFF. */
 EACH unsigned changed(u64 sum, int udp)
 {
     unsigned f = (unsigned)(sum % 65535);
-    return udp && RARE(f == 0) ? 0xFFFF : f;
+    return RARE(f == 0) && udp ? 0xFFFF : f;
 }
 
 /* Judging and mending */
@@ -170,7 +171,7 @@ EACH unsigned changed(u64 sum, int udp)
 EACH uint8_t judged(uint8_t *p, struct message m, struct ask ask)
 {
     (void)ask;
-    if (RARE(silent(p, m)))
+    if (silent(p, m))
         return m.family == 4 ? 1 : 8;
     return passes(total(p, m, 0)) ? 0 : 9;
 }
@@ -192,15 +193,15 @@ EACH uint8_t mended(uint8_t *p, struct message m, struct ask ask)
         for (size_t i = 20; i < m.header; i += 4)
             t = add(t, four(p + i));
         put_two(p + 10, field_of(t));
-        if (RARE(silent(p, m)))
+        if (silent(p, m))
             return 0;
     }
     /* the field is summed with the rest, and its complement makes it nothing */
     unsigned field = two(message + m.field) ^ 0xFFFF;
     unsigned fresh = field_of(total(p, m, field));
-    if (m.protocol == UDP && RARE(fresh == 0))
+    if (RARE(fresh == 0) && m.protocol == UDP)
         fresh = 0xFFFF;
-    if (m.protocol == ICMP && RARE(fresh == 0) && two(message) == 0 && blank(message + 4, m.len - 4))
+    if (RARE(fresh == 0) && m.protocol == ICMP && two(message) == 0 && blank(message + 4, m.len - 4))
         fresh = 0xFFFF;
     put_two(message + m.field, fresh);
     return 0;
@@ -212,7 +213,7 @@ EACH uint8_t lowered(uint8_t *p, struct message m, struct ask ask)
 {
     (void)ask;
     if (m.family == 6) {
-        if (RARE(silent(p, m)))
+        if (silent(p, m))
             return 8;
         if (RARE(p[7] < 2))
             return 11;
@@ -231,7 +232,7 @@ EACH uint8_t lowered(uint8_t *p, struct message m, struct ask ask)
 EACH uint8_t addressed(uint8_t *p, struct message m, struct ask ask)
 {
     uint8_t *field = p + m.header + m.field;
-    if (m.family == 6 && RARE(silent(p, m)))
+    if (m.family == 6 && silent(p, m))
         return 8;
     if (RARE(ask.number > 1) || RARE(ask.len != (m.family == 4 ? 4 : 16)))
         return 10;
@@ -241,7 +242,7 @@ EACH uint8_t addressed(uint8_t *p, struct message m, struct ask ask)
         u64 change = four(at) + (uint32_t)~new;
         memcpy(at, &new, 4);
         put_two(p + 10, changed(change + two(p + 10), 0));
-        if (m.protocol == ICMP || (m.protocol == UDP && RARE(two(field) == 0)))
+        if (m.protocol == ICMP || silent(p, m))
             return 0;
         put_two(field, changed(change + two(field), m.protocol == UDP));
     } else {
@@ -297,7 +298,7 @@ EACH uint8_t stretched(uint8_t *p, struct message m, struct ask ask)
 {
     uint8_t *message = p + m.header, *field = message + m.field;
     size_t room = m.len - m.body, at = m.body + ask.number;
-    if (m.family == 6 && RARE(silent(p, m)))
+    if (silent(p, m) && m.family == 6)
         return 8;
     if (RARE(ask.len > room) || RARE(ask.number > room - ask.len))
         return 10;
@@ -306,7 +307,7 @@ EACH uint8_t stretched(uint8_t *p, struct message m, struct ask ask)
     if (m.protocol == ICMP && RARE(blanks(message, m.len, at, ask)))
         return 12;
     u64 change = replace(message + at, ask.bytes, ask.len);
-    if (m.family == 4 && m.protocol == UDP && RARE(two(field) == 0))
+    if (m.family == 4 && silent(p, m))
         return 0;
     /* from an odd place each byte has 256 times the weight, or a 256th of it, which is the same */
     unsigned turn = ask.number % 2 * 8;
