@@ -47,12 +47,11 @@ table() { # KIND COLUMNS
 }
 
 # the columns' names
-plain='' once='' copies=''
+once='' copies=''
 for by in $compilers; do
-    plain="$plain;$by: RFC 1071 loop;$by: 64-bit loop;$by: DPDK shape;$by: RFC 1624 by hand"
     once="$once;$by: once" copies="$copies;$by: copies"
 done
-same="$once$copies;adc;SSE2"
+plain=';RFC 1071 loop;64-bit loop;DPDK shape;RFC 1624 by hand' same="$once$copies;adc;SSE2"
 
 commit=$(git rev-parse --short HEAD 2>/dev/null) || commit=unknown
 git diff --quiet HEAD -- crates crates.txt 2>/dev/null || commit="$commit, with changes"
@@ -77,14 +76,14 @@ fi
 echo
 echo "Instructions for each call (counted by $(qemu-x86_64 --version | sed -n '1s/ (.*//p'))."
 echo
-echo "Beside C that serves UDP alone and tests less:"
+echo "Beside C that serves UDP alone and tests less, by the better of both compilers:"
 echo
 table plain "ours$before$plain" <$out/calls
 echo
-echo "Beside C that makes the same tests in the same order, for all protocols and families, everything inlined: with its"
-echo "work once for all of them, as ours is written; and with copies of it for each. The copies' sum is C as well; or"
-echo "chains of add-with-carry (adc), which are assembly; or SSE2 for long strings and chains for short ones. Of these two"
-echo "the better compiler's is shown. 'C' is the best without assembly, and 'best' of all:"
+echo "Beside C that makes the same tests in the same order, for all protocols and families, everything inlined: its work"
+echo "stands once for all of them, as ours does, or in copies for each. The copies' sums are C too; or chains of"
+echo "add-with-carry (adc), which are assembly; or SSE2 for long strings and chains for short ones, both by the better"
+echo "compiler. 'C' is the best without assembly, and 'best' the best of all:"
 echo
 table same "ours$before$same" <$out/calls
 

@@ -1,9 +1,11 @@
-# Prints lines 'operation | packet | column | value' as a table. columns has the names, with ; between them. kind is
-# plain (the values) or same (the values, then ours over the best C whose work stands once, over the best C without
-# assembly, and over the best of all). A column adc or SSE2 has the better of both compilers. Rows in which no column but
-# ours and before has a value are left out, and equal rows of an operation are joined.
+# Prints lines 'operation | packet | column | value' as a table. columns has the names, with ; between them. A name with
+# no compiler before it has the better of both compilers. kind is plain (the values, and ours over the best) or same (also
+# ours over the best C whose work stands once, and over the best C without assembly). Rows in which no column but ours
+# and before has a value are left out, and equal rows of an operation are joined.
 BEGIN {
     n = split(columns, column, ";")
+    for (c = 1; c <= n; c++)
+        is_column[column[c]] = 1
 }
 {
     row = $1 " | " $2
@@ -12,8 +14,9 @@ BEGIN {
         rows[++count] = row
     }
     name = $3
-    sub(/^.*: (adc|SSE2)$/, substr(name, length(name) - 2) == "adc" ? "adc" : "SSE2", name)
-    if (!((row, name) in value) || $4 + 0 < value[row, name])
+    if (!(name in is_column))
+        sub(/^[^:]*: /, "", name)
+    if (!((row, name) in value) || $4 + 0 < value[row, name] + 0)
         value[row, name] = $4
 }
 END {
@@ -23,18 +26,18 @@ END {
         head = head " " column[c] " |"
         rule = rule "---|"
     }
-    print head (kind == "same" ? " ours / once | ours / C | ours / best |" : "")
-    print rule (kind == "same" ? "---|---|---|" : "")
+    print head (kind == "same" ? " ours / once | ours / C |" : "") " ours / best |"
+    print rule (kind == "same" ? "---|---|" : "") "---|"
     for (r = 1; r <= count; r++)
         print_row(rows[r])
     print_joined()
 }
 
-# The best value of a row in the columns whose names match.
+# The best value of a row in the others' columns, or in those whose names match.
 function least(row, names,    c, v, best) {
     for (c = 1; c <= n; c++) {
         v = value[row, column[c]]
-        if (column[c] ~ names && v != "" && (best == "" || v + 0 < best))
+        if (column[c] !~ /^(ours|before)$/ && column[c] ~ names && v != "" && (best == "" || v + 0 < best))
             best = v + 0
     }
     return best
@@ -42,14 +45,14 @@ function least(row, names,    c, v, best) {
 
 # A row is held back until the next one is known to differ. A packet is a kind and a length.
 function print_row(row,    text, c, v) {
-    if (least(row, ": |adc|SSE2") == "")
+    if (least(row, "") == "")
         return
     for (c = 1; c <= n; c++)
         text = text " " value[row, column[c]] " |"
     v = value[row, "ours"]
     if (kind == "same")
-        text = text sprintf(" %.2f | %.2f | %.2f |", v / least(row, ": once"), v / least(row, ": (once|copies)"),
-            v / least(row, ": |adc|SSE2"))
+        text = text sprintf(" %.2f | %.2f |", v / least(row, "once$"), v / least(row, "(once|copies)$"))
+    text = text sprintf(" %.2f |", v / least(row, ""))
     match(row, / [0-9]+$/)
     if (substr(row, 1, RSTART - 1) != joined || text != held) {
         print_joined()
