@@ -80,8 +80,8 @@ echo "Beside C that serves UDP alone and tests less, by the better of both compi
 echo
 table plain "ours$before$plain" <$out/calls
 echo
-echo "Beside C that makes the same tests in the same order, for all protocols and families, everything inlined: its work"
-echo "stands once for all of them, as ours does, or in copies for each. The copies' sums are C too; or chains of"
+echo "Beside C that makes the same tests in the same order, for all protocols and families, everything inlined. Its"
+echo "work stands once for all of them, as ours does, or in copies for each. The copies' sums are C too; or chains of"
 echo "add-with-carry (adc), which are assembly; or SSE2 for long strings and chains for short ones, both by the better"
 echo "compiler. 'C' is the best without assembly, and 'best' the best of all:"
 echo

@@ -127,7 +127,7 @@ EACH uint8_t found(uint8_t *p, struct message m, struct ask ask)
     return 0;
 }
 
-/* Does the work of a call on a packet whose shape is right. */
+/* Does the work of a call on a packet whose shape is right: in copies inside the layout, or once behind it. */
 EACH uint8_t whole(work *then, int judging, uint8_t *p, size_t len, struct ask ask)
 {
     if (SHAPE == COPIES)
@@ -153,7 +153,7 @@ EACH u64 total(const uint8_t *p, struct message m, u64 t)
     return add_bytes(t, p + m.header, m.len);
 }
 
-/* What is rare is asked first here and below, and the protocol then. */
+/* What is rare is asked before the protocol, here and below: in copies the protocol is no question. */
 EACH int silent(const uint8_t *p, struct message m)
 {
     return RARE(two(p + m.header + m.field) == 0) && m.protocol == UDP;

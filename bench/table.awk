@@ -1,7 +1,7 @@
 # Prints lines 'operation | packet | column | value' as a table. columns has the names, with ; between them. A name with
-# no compiler before it has the better of both compilers. kind is plain (the values, and ours over the best) or same (also
-# ours over the best C whose work stands once, and over the best C without assembly). Rows in which no column but ours
-# and before has a value are left out, and equal rows of an operation are joined.
+# no compiler before it has the better of both compilers. kind is plain (the values, and ours over the best) or same
+# (also ours over the best C whose work stands once, and over the best C without assembly). Rows in which no column but
+# ours and before has a value are left out, and equal rows of an operation are joined.
 BEGIN {
     n = split(columns, column, ";")
     for (c = 1; c <= n; c++)
