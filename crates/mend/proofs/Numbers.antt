@@ -9,7 +9,7 @@ use native.Mathlib.Decide.{ℕ-discrete}
 use lib.Dec.{eqb}
 use borrow.Author.Tests.{eq-eqb, ne-eqb}
 use Rattle.sums.specs.Fold.{fold, fieldOf, passes, swap}
-use Rattle.sums.proofs.Folds.{fold-as, fold-small, fold-mod, fold-fold, mod-in, mod-plus}
+use Rattle.sums.proofs.Folds.{fold-as, fold-small, fold-mod, fold-alike, fold-fold, mod-in, mod-plus}
 use Rattle.sums.proofs.Totals.{field-from-low}
 use Rattle.sums.proofs.Passing.{passing, passed, fresh-passes}
 use Rattle.mend.specs.Fresh.{sent}
@@ -98,10 +98,7 @@ fresh-blank t e = omega (arith, fold-as t)
 pub less-field : (t hc high m f r : ℕ) → fold m ≡ fold (256 * (t + hc)) → 256 * hc ≡ f + 65535 * high → f ≤ 65535 → fold r ≡ fold (m + (65535 - f))
     → r % 65535 ≡ (256 * t) % 65535
 less-field t hc high m f r em eh small er =
-    let a = alike r (m + (65535 - f)) er in
-    let b = alike m (256 * (t + hc)) em in
+    let a = fold-alike r (m + (65535 - f)) er in
+    let b = fold-alike m (256 * (t + hc)) em in
     let c : 256 * (t + hc) + (65535 - f) ≡ 256 * t + 65535 * (high + 1) = omega arith in
     a ∙ mod-plus m (256 * (t + hc)) (65535 - f) (65535 - f) b refl ∙ ap (λ n. n % 65535) c ∙ add-mul-mod-self-left (256 * t) 65535 (high + 1)
-  where
-    alike : (a b : ℕ) → fold a ≡ fold b → a % 65535 ≡ b % 65535
-    alike a b e = sym (fold-mod a) ∙ ap (λ n. n % 65535) e ∙ fold-mod b

@@ -12,7 +12,7 @@ use Rattle.sums.specs.Fold.{fold, swap}
 use Rattle.sums.specs.Total.{weigh}
 use Rattle.sums.specs.Partials.{swapIf}
 use Rattle.sums.specs.Update.{updated}
-use Rattle.sums.proofs.Folds.{fold-mod, mod-out, mod-in, mod-plus}
+use Rattle.sums.proofs.Folds.{fold-mod, fold-alike, mod-out, mod-in, mod-plus}
 use Rattle.sums.proofs.Totals.{other-mod}
 use Rattle.sums.proofs.Updates.{total-only}
 use Rattle.mend.specs.Fresh.{sent}
@@ -22,10 +22,6 @@ use Rattle.steps.specs.Steps.{Change, Renewed}
 pub complement : (old new r : ℕ) → old ≤ 18446744073709551615 → r % 65535 ≡ (18446744073709551615 - old + new) % 65535
     → (r % 65535 + old) % 65535 ≡ new % 65535
 complement old new r h e = omega arith
-
--- totals of one fold are alike modulo 65535
-pub fold-alike : (a b : ℕ) → fold a ≡ fold b → a % 65535 ≡ b % 65535
-fold-alike a b e = sym (fold-mod a) ∙ ap (λ n. n % 65535) e ∙ fold-mod b
 
 -- ---- a change, by any totals that have the folds of the old bytes' and the new bytes'
 pub low-change : (old new : List ℕ) (s t d : ℕ) → fold s ≡ fold (0 + weigh true old) → fold t ≡ fold (0 + weigh true new)

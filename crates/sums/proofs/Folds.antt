@@ -20,6 +20,10 @@ fold-mod t = omega (arith, fold-as t)
 pub fold-zero : (t : ℕ) → fold t ≡ 0 → t ≡ 0
 fold-zero t h = omega (arith, fold-as t)
 
+-- so totals of one fold are alike modulo 65535
+pub fold-alike : (a b : ℕ) → fold a ≡ fold b → a % 65535 ≡ b % 65535
+fold-alike a b e = sym (fold-mod a) ∙ ap (λ n. n % 65535) e ∙ fold-mod b
+
 -- it is the only such number, so totals alike in both have one fold
 pub fold-only : (t f : ℕ) → f ≤ 65535 → f % 65535 ≡ t % 65535 → (f ≡ 0 → t ≡ 0) → (t ≡ 0 → f ≡ 0) → f ≡ fold t
 unfolding fold

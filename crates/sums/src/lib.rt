@@ -72,14 +72,11 @@ pub fn field_low(t: u64) -> u64
 }
 
 // Whether a block with its field in place, whose total is t, passes. A fold is a total too, and so is a total that
-// was counted low byte first.
+// was counted low byte first. One test for both conditions: 0 less 1 wraps to a multiple of 65535.
 pub fn passes(t: u64) -> bool
     ensures { λ r. ⌜ r ≡ Fold·passes t ⌝ }
 {
-    if t % 65535 != 0 {
-        return false;
-    }
-    t != 0
+    std::num::wrapping_sub_u64(t, 1) % 65535 == 65534
 }
 
 // The field after the old bytes' fold gave way to the new bytes': RFC 1624's equation 3, but 0000 where that answers

@@ -1,6 +1,7 @@
 -- The old total's complement is added.
 use native.Mathlib.Omega.{arith}
-use Rattle.steps.proofs.Changes.{complement, fold-alike}
+use Rattle.sums.proofs.Folds.{fold-alike}
+use Rattle.steps.proofs.Changes.{complement}
 use borrow.Author.Needs.{needs}
 use Rattle.steps.proofs.update.change.Statement.{statement}
 use Rattle.steps.proofs.update.change.Tie as tie

@@ -6,7 +6,8 @@ use native.Mathlib.Nat.{zero-add}
 use mathlib.Core.Bool.{true}
 use denote.Ref.{now}
 use Rattle.sums.specs.Total.{weigh}
-use Rattle.steps.proofs.Changes.{complement, fold-alike, low-change}
+use Rattle.sums.proofs.Folds.{fold-alike}
+use Rattle.steps.proofs.Changes.{complement, low-change}
 use borrow.Author.Needs.{needs}
 use Rattle.steps.proofs.update.change_of.Statement.{statement}
 use Rattle.steps.proofs.update.change_of.Tie as tie
