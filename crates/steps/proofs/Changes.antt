@@ -12,7 +12,7 @@ use Rattle.sums.specs.Fold.{fold, swap}
 use Rattle.sums.specs.Total.{weigh}
 use Rattle.sums.specs.Partials.{swapIf}
 use Rattle.sums.specs.Update.{updated}
-use Rattle.sums.proofs.Folds.{fold-mod, fold-alike, mod-out, mod-in, mod-plus}
+use Rattle.sums.proofs.Folds.{fold-alike, mod-out, mod-in, mod-plus}
 use Rattle.sums.proofs.Totals.{other-mod}
 use Rattle.sums.proofs.Updates.{total-only}
 use Rattle.mend.specs.Fresh.{sent}
