@@ -49,8 +49,8 @@ fn set4(packet: &mut [u8], m: Message, side: u32, address: &[u8]) -> Verdict
     let header = renewed(packet, wire::HEADER_FIELD, d, false);
     let message = renewed(packet, m.field, d, m.protocol == wire::UDP);
     let quiet = wire::silent(packet, m);
-    wire::put_4(packet, at, address);
-    wire::put_low(packet, wire::HEADER_FIELD, header);
+    writes::put_4(packet, at, address);
+    writes::put_low(packet, wire::HEADER_FIELD, header);
     if m.pseudo {
         put_message(packet, m.field, quiet, message);
     }
@@ -70,7 +70,7 @@ fn set6(packet: &mut [u8], m: Message, side: u32, address: &[u8]) -> Verdict
     let end = at + wire::ADDRESS_6;
     let d = change(total_16(&packet[at..end]), total_16(address));
     let message = renewed(packet, m.field, d, m.protocol == wire::UDP);
-    wire::put_16(packet, at, address);
-    wire::put_low(packet, m.field, message);
+    writes::put_16(packet, at, address);
+    writes::put_low(packet, m.field, message);
     Verdict::Good
 }

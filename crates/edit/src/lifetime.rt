@@ -38,7 +38,7 @@ fn lower4(packet: &mut [u8]) -> Verdict
     }
     let field = raised(packet, wire::HEADER_FIELD);
     packet[wire::LIFETIME_4] = lifetime - 1;
-    wire::put_low(packet, wire::HEADER_FIELD, field);
+    writes::put_low(packet, wire::HEADER_FIELD, field);
     Verdict::Good
 }
 

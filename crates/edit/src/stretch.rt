@@ -53,6 +53,6 @@ fn put_stretch(packet: &mut [u8], m: Message, at: usize, bytes: &[u8])
     let d = aligned(odd, change_of(&packet[at..end], bytes));
     let message = renewed(packet, m.field, d, m.protocol == wire::UDP);
     let quiet = wire::silent(packet, m);
-    wire::put_bytes(packet, at, bytes);
+    writes::put_bytes(packet, at, bytes);
     put_message(packet, m.field, quiet, message);
 }

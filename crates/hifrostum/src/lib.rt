@@ -123,7 +123,8 @@ pub extern "C" fn hifrostum_join(
 pub extern "C" fn hifrostum_field(bytes: &[u8]) -> u16
     ensures { λ r. ⌜ r ≡ fieldOf (Fold·fold (total (now (bytes .entry)))) ⌝ }
 {
-    let field = sums::block_field(bytes);
+    let f = sums::fold_at(bytes, false);
+    let field = sums::field_of(f);
     field.0
 }
 

@@ -1,5 +1,5 @@
 // Words and numbers put into a buffer one after the other.
-use wire::put_bytes;
+use writes::put_bytes;
 ghost use mathlib.Core.Path.{_≡_};
 ghost use Prim.Native.Nat.{_+_, _≤_};
 ghost use lib.ListN.{length};

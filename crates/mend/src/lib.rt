@@ -63,7 +63,7 @@ fn mend_header(packet: &mut [u8], m: Message)
     match family {
         Family::Four => {
             let fresh = fresh_header(packet, m);
-            wire::put_low(packet, wire::HEADER_FIELD, fresh);
+            writes::put_low(packet, wire::HEADER_FIELD, fresh);
         }
         Family::Six => {}
     }
@@ -78,7 +78,7 @@ fn mend_message(packet: &mut [u8], m: Message)
         return;
     }
     let fresh = fresh_message(packet, m);
-    wire::put_low(packet, m.field, fresh);
+    writes::put_low(packet, m.field, fresh);
 }
 
 // Whether a message's field stays: UDP's 0000 over IPv4.

@@ -95,5 +95,5 @@ pub fn put_message(packet: &mut [u8], at: usize, quiet: bool, w: u64)
     if quiet {
         return;
     }
-    wire::put_low(packet, at, w);
+    writes::put_low(packet, at, w);
 }

@@ -14,7 +14,7 @@ pub use low::total;
 use verdicts::Verdict;
 ghost use mathlib.Core.Path.{_≡_};
 ghost use Prim.Native.Nat.{_+_, _%_, _≤_, _<_};
-ghost use Rattle.sums.specs.Total.{odd as Total·odd, weigh, total};
+ghost use Rattle.sums.specs.Total.{odd as Total·odd, weigh};
 ghost use Rattle.sums.specs.Fold.{fold, fieldOf};
 ghost use Rattle.sums.specs.Fold.{passes as Fold·passes};
 ghost use Rattle.sums.specs.Partials.{partialOf, joined, joinOf, longest, swapIf};
@@ -51,17 +51,6 @@ pub fn field_of(f: Fold) -> Field
     ensures { λ r. ⌜ r .0 ≡ fieldOf (f .0) ⌝ }
 {
     Field(65535 - f.0)
-}
-
-// The field of some bytes.
-pub fn block_field(bytes: &[u8]) -> Field
-    ensures { λ r. ⌜ r .0 ≡ fieldOf (fold (total (now (bytes .entry)))) ⌝ }
-{
-    let t = low::total(bytes, 0);
-    if t == 0 {
-        return Field(65535);
-    }
-    Field(aligned(true, field_low(t) as u16))
 }
 
 // The field, low byte first, of a total that isn't 0: minus the total, modulo 65535.

@@ -1,7 +1,7 @@
 // Cases, as they are read.
 use crate::operation;
 use libc::STDIN_FILENO;
-use wire::put_bytes;
+use writes::put_bytes;
 ghost use mathlib.Core.Path.{_≡_};
 ghost use Prim.Native.Nat.{_+_, _≤_};
 ghost use lib.ListN.{length};

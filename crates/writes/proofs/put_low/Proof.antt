@@ -3,10 +3,10 @@ use mathlib.Core.Path.{_≡_}
 use Prim.Native.Nat.{_+_, _*_, _/_, _%_}
 use native.Mathlib.Omega.{arith}
 use native.Mathlib.Numerals.{add-one}
 use Rattle.wire.specs.Bytes.{put}
 use borrow.Author.Needs.{needs}
-use Rattle.wire.proofs.write.put_low.Statement.{statement}
-use Rattle.wire.proofs.write.put_low.Tie as tie
+use Rattle.writes.proofs.put_low.Statement.{statement}
+use Rattle.writes.proofs.put_low.Tie as tie
 
 returns : tie.Need-returns
 unfolding put

@@ -4,8 +4,8 @@ use native.Mathlib.Omega.{arith}
 use lib.Seq.{take-all}
 use denote.Ref.{now}
 use borrow.Author.Needs.{needs}
-use Rattle.wire.proofs.write.put_16.Statement.{statement}
-use Rattle.wire.proofs.write.put_16.Tie as tie
+use Rattle.writes.proofs.put_16.Statement.{statement}
+use Rattle.writes.proofs.put_16.Tie as tie
 
 returns : tie.Need-returns
 returns c =

@@ -2,10 +2,10 @@
 use native.Mathlib.Numerals.{towards-suc}
 use native.Mathlib.Omega.{arith}
 use denote.Ref.{now}
 use Rattle.wire.proofs.Parts.{part-each}
 use borrow.Author.Needs.{needs}
-use Rattle.wire.proofs.write.eight.Statement.{statement}
-use Rattle.wire.proofs.write.eight.Tie as tie
+use Rattle.writes.proofs.eight.Statement.{statement}
+use Rattle.writes.proofs.eight.Tie as tie
 
 returns : tie.Need-returns
 returns c =

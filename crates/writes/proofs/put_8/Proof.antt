@@ -2,10 +2,10 @@
 use native.Mathlib.Omega.{arith}
 use native.Mathlib.Numerals.{towards-suc}
 use lib.ListN.{length-set}
 use Rattle.wire.proofs.Writes.{put-each}
 use borrow.Author.Needs.{needs}
-use Rattle.wire.proofs.write.put_8.Statement.{statement}
-use Rattle.wire.proofs.write.put_8.Tie as tie
+use Rattle.writes.proofs.put_8.Statement.{statement}
+use Rattle.writes.proofs.put_8.Tie as tie
 
 returns : tie.Need-returns
 returns c = simp towards-suc (put-each _ _ _ 8 (omega arith))

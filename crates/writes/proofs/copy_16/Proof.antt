@@ -1,10 +1,10 @@
 -- Both halves put are all put.
 use native.Mathlib.Omega.{arith}
 use denote.Ref.{now}
 use Rattle.wire.proofs.Writes.{put-both}
 use borrow.Author.Needs.{needs}
-use Rattle.wire.proofs.write.copy_16.Statement.{statement}
-use Rattle.wire.proofs.write.copy_16.Tie as tie
+use Rattle.writes.proofs.copy_16.Statement.{statement}
+use Rattle.writes.proofs.copy_16.Tie as tie
 
 returns : tie.Need-returns
 returns c =
