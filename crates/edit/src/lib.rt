@@ -4,17 +4,19 @@
 // right stays right without the packet being read again, and what was wrong stays wrong. A refused edit changes no
 // byte.
 //
-// Each edit finds the message itself and hands it to one function, which makes the tests that are left: the compiler
-// then takes `outer` and `inner` in, and no message is built in memory. Whatever is read is read before the first
-// write.
+// A lifetime stands in the header, so the packet need not have a message: a fragment's is lowered too. The other two
+// edits find the message themselves and hand it to one function, which makes the tests that are left: the compiler then
+// takes `outer` and `inner` in, and no message is built in memory. Whatever is read is read before the first write.
 mod address;
 mod lifetime;
 mod stretch;
 
 use address::set_side;
-use lifetime::lower;
+use lifetime::lower4;
+use lifetime::lower6;
 use stretch::set_within;
 use verdicts::Verdict;
+use wire::Family;
 use wire::Frame;
 use wire::Part;
 ghost use mathlib.Core.Path.{_≡_};
@@ -28,13 +30,10 @@ pub fn lower_lifetime(packet: &mut [u8]) -> Verdict
     match frame {
         Frame::Refused(v) => v,
         Frame::Ip(h) => {
-            if h.fragment {
-                return Verdict::Fragment;
-            }
-            let part = wire::inner(packet, h);
-            match part {
-                Part::Refused(v) => v,
-                Part::Whole(m) => lower(packet, m),
+            let family = h.family;
+            match family {
+                Family::Four => lower4(packet),
+                Family::Six => lower6(packet),
             }
         }
     }

@@ -1,34 +1,15 @@
-// The lifetime lowered in a packet whose shape is right.
-use steps::missing;
+// The lifetime lowered in a packet whose outer shape is right.
 use steps::raised;
 use verdicts::Verdict;
-use wire::Family;
-use wire::Message;
 ghost use mathlib.Core.Path.{_≡_};
 ghost use mathlib.Core.Bool.{true, false};
 ghost use Prim.Native.Nat.{_≤_};
 ghost use lib.ListN.{length};
 ghost use Rattle.wire.specs.Outer.{four};
-ghost use Rattle.wire.specs.Inner.{Holds};
-ghost use Rattle.edit.specs.Rest.{unlessMissing, lifetimeIn};
-
-// Lowers the lifetime of a packet with that message.
-pub fn lower(packet: &mut [u8], m: Message) -> Verdict
-    requires { ⌜ Holds (now packet) m ⌝ }
-    ensures { λ r. ⌜ (r, now (packet .exit)) ≡ unlessMissing (now (packet .entry)) (lifetimeIn (now (packet .entry))) ⌝ }
-{
-    if missing(packet, m) {
-        return Verdict::Missing;
-    }
-    let family = m.family;
-    match family {
-        Family::Four => lower4(packet),
-        Family::Six => lower6(packet),
-    }
-}
+ghost use Rattle.edit.specs.Rest.{lifetimeIn};
 
 // IPv4's, which the header's sum covers. It is its word's first byte, so low byte first the change is one less.
-fn lower4(packet: &mut [u8]) -> Verdict
+pub fn lower4(packet: &mut [u8]) -> Verdict
     requires { ⌜ (20 ≤ length (now packet)) × (four (now packet) ≡ true) ⌝ }
     ensures { λ r. ⌜ (r, now (packet .exit)) ≡ lifetimeIn (now (packet .entry)) ⌝ }
 {
@@ -43,7 +24,7 @@ fn lower4(packet: &mut [u8]) -> Verdict
 }
 
 // IPv6's, which no sum covers.
-fn lower6(packet: &mut [u8]) -> Verdict
+pub fn lower6(packet: &mut [u8]) -> Verdict
     requires { ⌜ (40 ≤ length (now packet)) × (four (now packet) ≡ false) ⌝ }
     ensures { λ r. ⌜ (r, now (packet .exit)) ≡ lifetimeIn (now (packet .entry)) ⌝ }
 {

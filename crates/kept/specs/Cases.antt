@@ -9,15 +9,15 @@ use Rattle.verdicts.specs.declared.Verdict.the-variants.{Place, Spent, Blank}
 use Rattle.wire.specs.Bytes.{byteAt, put}
 use Rattle.wire.specs.Outer.{versionOf, protocolOf}
 use Rattle.wire.specs.Inner.{startOf, endOf, fieldAt, bodyOf}
-use Rattle.judge.specs.Cases.{wholeCases, missingCase}
+use Rattle.judge.specs.Cases.{outerCases, wholeCases, missingCase}
 use Rattle.kept.specs.Runs.{Edit, lifetime, address, stretch}
-
--- 2, 3, 4, 6, 7, 8
-abbrev pub editCases : List ℕ → List Case
-editCases p = wholeCases p ++ missingCase p
 
 abbrev pub lifetimeCases : List ℕ → List Case
 lifetimeCases p = ((((versionOf p ≡ 4) × (byteAt p 8 < 2)) ⊎ ((versionOf p ≡ 6) × (byteAt p 7 < 2))) leads Spent) ∷ []
+
+-- 2, 3, 4, 6, 7, 8, before those of the address and of the stretch
+abbrev pub editCases : List ℕ → List Case
+editCases p = wholeCases p ++ missingCase p
 
 abbrev pub addressCases : List ℕ → ℕ → List ℕ → List Case
 addressCases p side new =
@@ -36,6 +36,6 @@ stretchCases p place new =
     ∷ []
 
 abbrev pub casesOf : Edit → List ℕ → List Case
-casesOf lifetime p = editCases p ++ lifetimeCases p
+casesOf lifetime p = outerCases p ++ lifetimeCases p
 casesOf (address side new) p = editCases p ++ addressCases p side new
 casesOf (stretch place new) p = editCases p ++ stretchCases p place new

@@ -10,20 +10,16 @@ use Rattle.verdicts.specs.Rules.{Rule, _⇒_, first}
 use Rattle.verdicts.specs.declared.Verdict.{Verdict}
 use Rattle.verdicts.specs.declared.Verdict.the-variants.{Good, Place, Spent, Blank}
 use Rattle.wire.specs.Bytes.{byteAt, part, put, putWord}
-use Rattle.wire.specs.Outer.{protocolOf, lifetimeAt, addressesAt, addressSize, addressesLength}
+use Rattle.wire.specs.Outer.{protocolOf, lifetimeAt, addressesAt, addressSize, addressesLength, outerRules}
 use Rattle.wire.specs.Inner.{startOf, endOf, lengthOf, fieldAt, bodyOf, pseudo, wholeRules}
 use Rattle.judge.specs.Judge.{missingRule}
 use Rattle.kept.specs.Update.{headerAfter, messageAfter}
 
--- 2, 3, 4, 6, 7, 8 in the judge's order, sums not being looked at
-unfoldable pub editRules : List ℕ → List Rule
-editRules p = wholeRules p ++ missingRule p
-
--- ---- lifetime
+-- ---- lifetime: only the header is involved
 abbrev pub lowered : List ℕ → List ℕ
 lowered p = (byteAt p (lifetimeAt p) - 1) ∷ []
 
--- spent if it is 0 or 1
+-- after 2, 3 and 4 from header and declared length: spent if it is 0 or 1
 abbrev pub lifetimeRules : List ℕ → List Rule
 lifetimeRules p = (ltb (byteAt p (lifetimeAt p)) 2 ⇒ Spent) ∷ []
 
@@ -31,7 +27,11 @@ abbrev pub lifetimeLeft : List ℕ → List ℕ
 lifetimeLeft p = headerAfter p (lifetimeAt p) (lowered p) (put p (lifetimeAt p) (lowered p))
 
 unfoldable pub lifetimeOf : List ℕ → Verdict × List ℕ
-lifetimeOf p = first (editRules p ++ lifetimeRules p) (λ v. (v, p)) (Good, lifetimeLeft p)
+lifetimeOf p = first (outerRules p ++ lifetimeRules p) (λ v. (v, p)) (Good, lifetimeLeft p)
+
+-- ---- what the other two edits refuse first: 2, 3, 4, 6, 7, 8 in the judge's order, sums not being looked at
+unfoldable pub editRules : List ℕ → List Rule
+editRules p = wholeRules p ++ missingRule p
 
 -- ---- address: side 0 is the source, 1 the destination
 abbrev pub sideAt : List ℕ → ℕ → ℕ

@@ -8,7 +8,7 @@ use Rattle.verdicts.specs.Rules.{Rule, first}
 use Rattle.verdicts.specs.declared.Verdict.{Verdict}
 use Rattle.verdicts.specs.declared.Verdict.the-variants.{Good}
 use Rattle.wire.specs.Bytes.{Bytes, put}
-use Rattle.wire.specs.Outer.{lifetimeAt}
+use Rattle.wire.specs.Outer.{lifetimeAt, outerRules}
 use Rattle.wire.specs.Inner.{bodyOf}
 use Rattle.kept.specs.Edits.{editRules, lowered, lifetimeRules, lifetimeOf, sideAt, addressRules, addressOf, stretchRules, stretchOf}
 
@@ -30,7 +30,7 @@ run (e ∷ es) p = run es (apply e p .1)
 
 -- ---- the same edits with no sums at all
 abbrev pub rulesOf : Edit → List ℕ → List Rule
-rulesOf lifetime p = editRules p ++ lifetimeRules p
+rulesOf lifetime p = outerRules p ++ lifetimeRules p
 rulesOf (address side new) p = editRules p ++ addressRules p side new
 rulesOf (stretch place new) p = editRules p ++ stretchRules p place new
 

@@ -1,14 +1,14 @@
--- Fresh fields, each worked out with that field read as 0000.
+-- The two sum fields: which of them is in use, and its fresh value, worked out with that field read as 0000.
 use Prim.Native.Nat.{ℕ}
 use mathlib.Core.Path.{_≡_}
 use mathlib.Core.List.{List}
-use mathlib.Core.Bool.{Bool, true, false, _&&_}
+use mathlib.Core.Bool.{Bool, true, not, _&&_}
 use lib.Dec.{eqb}
 use Rattle.verdicts.specs.Choice.{if_then_else_}
 use Rattle.sums.specs.Fold.{fold, fieldOf}
 use Rattle.wire.specs.Bytes.{wordAt, putWord}
 use Rattle.wire.specs.Outer.{four, headerField}
-use Rattle.wire.specs.Inner.{fieldAt, udp, silentOf}
+use Rattle.wire.specs.Inner.{fieldAt, udp, silentOf, carries}
 use Rattle.cover.specs.Sums.{headerTotal, messageTotal}
 
 -- a UDP field of 0000 is sent as FFFF
@@ -21,11 +21,30 @@ freshHeader p = fieldOf (fold (headerTotal (putWord p headerField 0)))
 unfoldable pub freshMessage : List ℕ → ℕ
 freshMessage p = sent (udp p) (fieldOf (fold (messageTotal (putWord p (fieldAt p) 0))))
 
--- ---- what the theorems speak of: a field in use stands as fresh computation would set it
--- the header's, in IPv4
-abbrev pub HeaderFresh : List ℕ → Type 0
-HeaderFresh p = four p ≡ true → wordAt p headerField ≡ freshHeader p
+-- ---- what the theorems speak of
+pub data Sum : Type 0 where
+  header : Sum
+  message : Sum
 
--- the message's, unless it is UDP's 0000 over IPv4
-abbrev pub MessageFresh : List ℕ → Type 0
-MessageFresh p = (silentOf p && four p) ≡ false → wordAt p (fieldAt p) ≡ freshMessage p
+-- where its field stands
+abbrev pub placed : Sum → List ℕ → ℕ
+placed header p = headerField
+placed message p = fieldAt p
+
+-- it is in use: the header's in IPv4, and the message's where the packet carries a message, unless it is UDP's 0000 over IPv4. So of a
+-- fragment, of a protocol that isn't covered and of a message whose shape is refused it is the header's alone
+abbrev pub used : Sum → List ℕ → Bool
+used header p = four p
+used message p = carries p && not (silentOf p && four p)
+
+-- the word that stands in it, and the one that fresh computation would set
+abbrev pub standing : Sum → List ℕ → ℕ
+standing s p = wordAt p (placed s p)
+
+abbrev pub freshOf : Sum → List ℕ → ℕ
+freshOf header p = freshHeader p
+freshOf message p = freshMessage p
+
+-- where it is in use, it stands as fresh computation would set it
+abbrev pub Fresh : Sum → List ℕ → Type 0
+Fresh s p = used s p ≡ true → standing s p ≡ freshOf s p

@@ -11,7 +11,7 @@ use Rattle.verdicts.specs.declared.Verdict.the-variants.{Good}
 use Rattle.wire.specs.Bytes.{wordAt, putWord}
 use Rattle.wire.specs.Outer.{four, headerField}
 use Rattle.wire.specs.Inner.{fieldAt, udp, silentOf, wholeRules}
-use Rattle.mend.specs.Fresh.{freshHeader, freshMessage}
+use Rattle.mend.specs.Fresh.{freshHeader, freshMessage, Sum, placed, used}
 
 -- IPv6 has no header field
 unfoldable pub mendedHeader : List ℕ → List ℕ
@@ -26,10 +26,9 @@ unfoldable pub mendOf : List ℕ → Verdict × List ℕ
 mendOf p = first (wholeRules p) (λ v. (v, p)) (Good, mendedMessage (mendedHeader p))
 
 -- ---- what the theorems speak of
--- i is no byte of a sum field
-pub record Outside (p : List ℕ) (i : ℕ) : Type 0 where
-  pub header : four p ≡ true → (i < headerField) ⊎ (headerField + 1 < i)
-  pub message : (i < fieldAt p) ⊎ (fieldAt p + 1 < i)
+-- i is no byte of a sum field in use
+abbrev pub Outside : List ℕ → ℕ → Type 0
+Outside p i = (s : Sum) → used s p ≡ true → (i < placed s p) ⊎ (placed s p + 1 < i)
 
 -- i is a byte of a field other than UDP's that stands at FFFF where the fresh one is 0000
 abbrev pub Full : List ℕ → ℕ → Type 0
