@@ -2,7 +2,7 @@
 use mathlib.Core.Path.{_≡_, sym, ap, _∙_}
 use Prim.Native.Nat.{ℕ}
 use mathlib.Core.List.{List, _∷_, _++_}
-use mathlib.Core.Bool.{true, false, not}
+use mathlib.Core.Bool.{true, false, not, _&&_}
 use Rattle.verdicts.specs.Rules.{Rule, _⇒_, first, clear}
 use Rattle.verdicts.specs.declared.Verdict.{Verdict}
 use Rattle.verdicts.specs.declared.Verdict.the-variants.{Good, HeaderSum, Fragment}
@@ -42,7 +42,7 @@ judge-as p = first-append (outerRules p) _ self Good ∙ ap (first (outerRules p
 -- what the message's verdict rests on, where nothing refuses the shape
 pub record Heard (p q : List ℕ) : Type 0 where
   pub silent : silentOf q ≡ silentOf p
-  pub sums : silentOf p ≡ false → messageSums q ≡ messageSums p
+  pub sums : (silentOf p && four p) ≡ false → messageSums q ≡ messageSums p
 
 module _ {p q : List ℕ} (s : Same p q) (h : headerSums q ≡ headerSums p) (m : clear (wholeRules p) → Heard p q) where
   sum-kept : clear (wholeRules p) → first (sumRules q) self Good ≡ first (sumRules p) self Good
@@ -51,7 +51,7 @@ module _ {p q : List ℕ} (s : Same p q) (h : headerSums q ≡ headerSums p) (m 
       let u = m w in
       by-cases (silentOf p)
       (λ t. by-cases (four p) (λ f. simp (u .silent, four-same (s .header), t, f)) (λ f. simp (u .silent, four-same (s .header), t, f)))
-      (λ t. simp (u .silent, t, u .sums t))
+      (λ t. simp (u .silent, t, u .sums (simp t)))
 
   -- the layout, the header's sum, and the message's where it has one
   pub judge-kept : judgeOf q ≡ judgeOf p

@@ -4,21 +4,38 @@ use mathlib.Core.Logic.{inr}
 use Prim.Native.Nat.{ℕ, _+_, _/_, _%_}
 use native.Mathlib.Omega.{arith}
 use mathlib.Core.List.{List, [], _∷_}
-use mathlib.Core.Bool.{true, false, _&&_}
-use Rattle.verdicts.proofs.Tests.{by-cases}
+use mathlib.Core.Bool.{true, false, not, _&&_}
+use borrow.Author.Tests.{not-true}
+use Rattle.verdicts.specs.Rules.{clear}
+use Rattle.verdicts.proofs.Tests.{by-cases, and-true}
 use Rattle.sums.specs.Fold.{fold, fieldOf}
 use Rattle.wire.specs.Bytes.{wordAt, putWord}
 use Rattle.wire.specs.Outer.{four, headerField}
-use Rattle.wire.specs.Inner.{fieldAt, silentOf, udp}
+use Rattle.wire.specs.Inner.{fieldAt, silentOf, udp, wholeRules, carries}
 use Rattle.wire.proofs.Facts.{OuterFacts, Facts}
 use Rattle.wire.proofs.Writes.{Wrote, put-wrote}
-use Rattle.wire.proofs.Same.{Same, field-same, four-same, same-self, same-step, silent-at, soft-header, soft-message, udp-same}
+use Rattle.wire.proofs.Same.{Same, carries-same, field-same, four-same, same-self, same-step, silent-at, soft-header, soft-message, udp-same}
+use Rattle.wire.proofs.Held.{carries-clear, clear-carries}
 use Rattle.cover.specs.Sums.{headerTotal, messageTotal, headerSums, messageSums}
 use Rattle.cover.proofs.Blocks.{header-word, message-field}
 use Rattle.judge.proofs.Answers.{sums4, sums6}
+use Rattle.judge.proofs.Kept.{whole-facts}
 use Rattle.mend.specs.Mend.{mendedHeader}
-use Rattle.mend.specs.Fresh.{sent, freshHeader, freshMessage, HeaderFresh, MessageFresh}
+use Rattle.mend.specs.Fresh.{sent, freshHeader, freshMessage, Sum, header, message, used, Fresh}
 use Rattle.mend.proofs.Numbers.{sent-passes}
+
+-- what holds of both fields
+pub each : (P : Sum → Type 0) → P header → P message → (s : Sum) → P s
+each P h m header = h
+each P h m message = m
+
+-- the message's is in use: there is a message, and it isn't UDP's 0000 over IPv4
+module _ (p : List ℕ) (u : used message p ≡ true) where
+  pub used-whole : clear (wholeRules p)
+  used-whole = carries-clear p (and-true (carries p) (not (silentOf p && four p)) u .0)
+
+  pub used-sums : (silentOf p && four p) ≡ false
+  used-sums = not-true (silentOf p && four p) (and-true (carries p) (not (silentOf p && four p)) u .1)
 
 -- ---- a word written over a field; a field read as 0000
 -- the header's
@@ -48,24 +65,24 @@ module _ {p q : List ℕ} (k : Facts p) (a : Same p q) where
   freshF = rw (udp-same (a .header), field-same (a .header))
 
 -- ---- a fresh field makes its sum right
-module _ {p : List ℕ} where
-  pub header-right : OuterFacts p → HeaderFresh p → headerSums p ≡ true
-  unfolding freshHeader sent
-  header-right k h =
-      by-cases (four p)
-      (λ f. sym (sums4 p f) ∙ rw (sym (asideH k (same-self p)), h f) (sent-passes (headerTotal (putWord p headerField 0)) false))
-      (λ f. sym (sums6 p f))
+pub header-right : {p : List ℕ} → OuterFacts p → Fresh header p → headerSums p ≡ true
+unfolding freshHeader sent
+header-right {p} k h =
+    by-cases (four p)
+    (λ f. sym (sums4 p f) ∙ rw (sym (asideH k (same-self p)), h f) (sent-passes (headerTotal (putWord p headerField 0)) false))
+    (λ f. sym (sums6 p f))
 
-  pub message-right : Facts p → MessageFresh p → silentOf p ≡ false → messageSums p ≡ true
-  unfolding messageSums
-  message-right k m u =
-      let z = same-self p in
-      rw (sym (asideF k z), m (simp u), freshF k z) (sent-passes (messageTotal (putWord p (fieldAt p) 0)) (udp p))
+pub message-right : (p : List ℕ) → clear (wholeRules p) → Fresh message p → silentOf p ≡ false → messageSums p ≡ true
+unfolding messageSums
+message-right p w m u =
+    let k = whole-facts p w in
+    let z = same-self p in
+    rw (sym (asideF k z), m (simp (clear-carries p w, u)), freshF k z) (sent-passes (messageTotal (putWord p (fieldAt p) 0)) (udp p))
 
 -- ---- what decides: the totals, and the fields
 module _ {p q r : List ℕ} (k : OuterFacts p) (a : Same p q) (b : Same p r)
     (t : headerTotal r ≡ headerTotal q) (e : wordAt r headerField ≡ wordAt q headerField) where
-  pub header-fresh : HeaderFresh q → HeaderFresh r
+  pub header-fresh : Fresh header q → Fresh header r
   unfolding freshHeader
   header-fresh h f =
       let x : headerTotal (putWord r headerField 0) ≡ headerTotal (putWord q headerField 0) = omega (arith, asideH k a, asideH k b) in
@@ -75,16 +92,21 @@ module _ {p q r : List ℕ} (k : Facts p) (a : Same p q) (b : Same p r) where
   pub silent-carry : wordAt r (fieldAt p) ≡ wordAt q (fieldAt p) → silentOf r ≡ silentOf q
   silent-carry e = silent-at b k ∙ rw e (sym (silent-at a k))
 
+  -- and so it is in use or not
+  pub used-carry : wordAt r (fieldAt p) ≡ wordAt q (fieldAt p) → used message r ≡ used message q
+  used-carry e =
+      ap₂ (λ c s. c && not s) (carries-same b ∙ sym (carries-same a))
+      (ap₂ _&&_ (silent-carry e) (four-same (b .header) ∙ sym (four-same (a .header))))
+
   module _ (t : messageTotal r ≡ messageTotal q) (e : wordAt r (fieldAt p) ≡ wordAt q (fieldAt p)) where
     pub fresh-carry : freshMessage r ≡ freshMessage q
     fresh-carry =
         let x : messageTotal (putWord r (fieldAt p) 0) ≡ messageTotal (putWord q (fieldAt p) 0) = omega (arith, asideF k a, asideF k b) in
         freshF k b ∙ rw x (sym (freshF k a))
 
-    pub message-fresh : MessageFresh q → MessageFresh r
-    message-fresh m s =
-        let z : (silentOf r && four r) ≡ (silentOf q && four q) = ap₂ _&&_ (silent-carry e) (four-same (b .header) ∙ sym (four-same (a .header))) in
-        ap (wordAt r) (field-same (b .header)) ∙ e ∙ ap (wordAt q) (sym (field-same (a .header))) ∙ m (sym z ∙ s) ∙ sym fresh-carry
+    pub message-fresh : Fresh message q → Fresh message r
+    message-fresh m u =
+        ap (wordAt r) (field-same (b .header)) ∙ e ∙ ap (wordAt q) (sym (field-same (a .header))) ∙ m (sym (used-carry e) ∙ u) ∙ sym fresh-carry
 
 -- mending the header leaves the layout
 pub mended-same : {p : List ℕ} → OuterFacts p → Same p (mendedHeader p)

@@ -15,20 +15,21 @@ use Rattle.wire.specs.Inner.{fieldAt, silentOf, udp, wholeRules}
 use Rattle.wire.proofs.Facts.{Facts}
 use Rattle.wire.proofs.Writes.{bytes-word, bytes-wrote, word-above, word-below, word-wrote}
 use Rattle.wire.proofs.Same.{silent-at, Same, field-same, four-same, same-self}
+use Rattle.wire.proofs.Held.{clear-carries}
 use Rattle.cover.specs.Sums.{headerTotal, messageTotal}
 use Rattle.cover.proofs.Blocks.{header-out, header-word, message-out, message-field}
 use Rattle.judge.proofs.Kept.{whole-facts}
-use Rattle.mend.specs.Fresh.{sent, freshHeader, freshMessage, HeaderFresh, MessageFresh}
+use Rattle.mend.specs.Fresh.{sent, freshHeader, freshMessage, Sum, header, message, used, placed, freshOf, Fresh}
 use Rattle.mend.specs.Mend.{mendedHeader, mendedMessage, Outside}
 use Rattle.mend.proofs.Numbers.{sent-some, sent-small}
-use Rattle.mend.proofs.Fresh.{writeH, writeF, sameH, sameF, asideH, asideF, freshF, header-fresh, silent-carry, fresh-carry}
+use Rattle.mend.proofs.Fresh.{each, used-sums, writeH, writeF, sameH, sameF, asideH, asideF, freshF, header-fresh, silent-carry, fresh-carry}
 
 -- ---- the header's field set
 record HeaderSet (p q : List ℕ) : Type 0 where
   same : Same p q
   bytes : Bytes p → Bytes q
   word : four p ≡ true → wordAt q headerField ≡ freshHeader p
-  fresh : HeaderFresh q
+  fresh : Fresh header q
   total : messageTotal q ≡ messageTotal p
   field : wordAt q (fieldAt p) ≡ wordAt p (fieldAt p)
   others : (i : ℕ) → (four p ≡ true → (i < headerField) ⊎ (headerField + 1 < i)) → byteAt q i ≡ byteAt p i
@@ -69,11 +70,11 @@ record MessageSet (p q r : List ℕ) : Type 0 where
   bytes : Bytes q → Bytes r
   kept : (silentOf q && four q) ≡ true → wordAt r (fieldAt p) ≡ wordAt q (fieldAt p)
   word : (silentOf q && four q) ≡ false → wordAt r (fieldAt p) ≡ freshMessage q
-  fresh : MessageFresh r
+  fresh : Fresh message r
   silent : silentOf r ≡ (silentOf q && four q)
-  header : HeaderFresh q → HeaderFresh r
+  header : Fresh header q → Fresh header r
   field : wordAt r headerField ≡ wordAt q headerField
-  others : (i : ℕ) → (i < fieldAt p) ⊎ (fieldAt p + 1 < i) → byteAt r i ≡ byteAt q i
+  others : (i : ℕ) → ((silentOf q && four q) ≡ false → (i < fieldAt p) ⊎ (fieldAt p + 1 < i)) → byteAt r i ≡ byteAt q i
 
 message-set : {p q : List ℕ} → Facts p → Same p q → MessageSet p q (mendedMessage q)
 unfolding mendedMessage
@@ -94,7 +95,7 @@ message-set {p} {q} k a =
       bytes = λ b. b;
       kept = λ n. refl;
       word = λ n. absurd (true≢false (sym u ∙ n));
-      fresh = λ n. absurd (true≢false (sym u ∙ n));
+      fresh = λ n. absurd (true≢false (sym u ∙ used-sums q n));
       silent = and-true (silentOf q) (four q) u .0 ∙ sym u;
       header = λ h. h;
       field = refl;
@@ -109,17 +110,16 @@ message-set {p} {q} k a =
       silent = silent ∙ sym u;
       header = header-fresh (k .outer) a s (header-out (k .outer) a s w (omega arith)) (word-below w headerField (omega arith));
       field = word-below w headerField (omega arith);
-      others = λ i o. ⊎-elim (λ l. w .below i l) (λ l. w .above i (omega arith)) o;
+      others = λ i o. ⊎-elim (λ l. w .below i l) (λ l. w .above i (omega arith)) (o u);
     })))
 
 -- ---- both
 pub record Mended (p q : List ℕ) : Type 0 where
   pub same : Same p q
   pub bytes : Bytes p → Bytes q
-  pub header : four p ≡ true → wordAt q headerField ≡ freshHeader p
-  pub message : (silentOf p && four p) ≡ false → wordAt q (fieldAt p) ≡ freshMessage p
+  pub sets : (s : Sum) → used s p ≡ true → wordAt q (placed s p) ≡ freshOf s p
   pub kept : (silentOf p && four p) ≡ true → wordAt q (fieldAt p) ≡ wordAt p (fieldAt p)
-  pub fresh : HeaderFresh q × MessageFresh q
+  pub fresh : (s : Sum) → Fresh s q
   pub silent : silentOf q ≡ (silentOf p && four p)
   pub others : (i : ℕ) → Outside p i → byteAt q i ≡ byteAt p i
 
@@ -134,10 +134,11 @@ both-set p c =
     record {
       same = m .same;
       bytes = λ b. m .bytes (h .bytes b);
-      header = λ f. m .field ∙ h .word f;
-      message = λ u. m .word (s ∙ u) ∙ fresh-carry k z (h .same) (h .total) (h .field);
+      sets = each (λ s. used s p ≡ true → wordAt (mendedMessage (mendedHeader p)) (placed s p) ≡ freshOf s p)
+          (λ f. m .field ∙ h .word f)
+          (λ u. m .word (s ∙ used-sums p u) ∙ fresh-carry k z (h .same) (h .total) (h .field));
       kept = λ u. m .kept (s ∙ u) ∙ h .field;
-      fresh = (m .header (h .fresh), m .fresh);
+      fresh = each (λ s. Fresh s (mendedMessage (mendedHeader p))) (m .header (h .fresh)) (m .fresh);
       silent = m .silent ∙ s;
-      others = λ i o. m .others i (o .message) ∙ h .others i (o .header);
+      others = λ i o. m .others i (λ u. o message (simp (clear-carries p c, sym s ∙ u))) ∙ h .others i (o header);
     }

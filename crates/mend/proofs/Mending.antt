@@ -6,7 +6,7 @@ use native.Mathlib.Omega.{arith}
 use native.Mathlib.Decide.{ℕ-discrete, decLt}
 use native.Mathlib.Numerals.{add-one}
 use mathlib.Core.List.{List}
-use mathlib.Core.Bool.{true, false, _&&_, true≢false}
+use mathlib.Core.Bool.{true, false, not, _&&_, true≢false}
 use lib.ListN.{length}
 use lib.Seq.{set-getD}
 use borrow.Author.Tests.{eqb-false}
@@ -22,9 +22,10 @@ use Rattle.sums.specs.Fold.{passes}
 use Rattle.wire.specs.Bytes.{byteAt, wordAt, put, putWord, Bytes}
 use Rattle.wire.specs.Outer.{four, headerField, outerRules}
 use Rattle.wire.specs.Messages.{shapeRules}
-use Rattle.wire.specs.Inner.{fieldAt, messageRules, silentOf, udp, wholeRules}
+use Rattle.wire.specs.Inner.{fieldAt, messageRules, silentOf, udp, wholeRules, carries}
 use Rattle.wire.proofs.Writes.{word-small}
 use Rattle.wire.proofs.Same.{silent-at, four-same, same-self, whole-same}
+use Rattle.wire.proofs.Held.{carries-clear, clear-carries}
 use Rattle.cover.specs.Sums.{headerTotal, messageTotal, headerSums, messageSums}
 use Rattle.judge.specs.Judge.{judgeOf}
 use Rattle.judge.specs.Cases.{wholeCases}
@@ -32,10 +33,10 @@ use Rattle.judge.proofs.Exactly.{whole-told}
 use Rattle.judge.proofs.Answers.{good, unsummed, sums4}
 use Rattle.judge.proofs.Accepts.{accepted, accepting, verdict-good, verdict-unsummed}
 use Rattle.judge.proofs.Kept.{whole-facts}
-use Rattle.mend.specs.Fresh.{sent, freshHeader, freshMessage, HeaderFresh, MessageFresh}
+use Rattle.mend.specs.Fresh.{sent, freshHeader, freshMessage, Sum, header, message, used, placed, Fresh}
 use Rattle.mend.specs.Mend.{mendedHeader, mendedMessage, mendOf, Outside, Full}
 use Rattle.mend.proofs.Numbers.{passing-fresh}
-use Rattle.mend.proofs.Fresh.{asideH, asideF, header-right, message-right}
+use Rattle.mend.proofs.Fresh.{each, asideH, asideF, header-right, message-right}
 use Rattle.mend.proofs.Mended.{Mended, both-set}
 
 -- ---- what it answers, and what it changes
@@ -78,21 +79,20 @@ module _ (p : List ℕ) where
   mended c = rw (done c) (both-set p c)
 
 -- ---- what the judge says of it
-fresh-judged : (p : List ℕ) → clear (wholeRules p) → HeaderFresh p → MessageFresh p → (silentOf p ≡ true → four p ≡ true)
+fresh-judged : (p : List ℕ) → clear (wholeRules p) → ((s : Sum) → Fresh s p) → (silentOf p ≡ true → four p ≡ true)
     → judgeOf p ≡ (if silentOf p then Unsummed else Good)
-fresh-judged p c h m quiet =
-    let k = whole-facts p c in
-    sym (accepting p c (header-right (k .outer) h))
+fresh-judged p c f quiet =
+    sym (accepting p c (header-right (whole-facts p c .outer) (f header)))
     ∙ by-cases (silentOf p)
     (λ u. simp u (sym (unsummed p u (quiet u))))
-    (λ u. simp u (sym (good p u (message-right k m u))))
+    (λ u. simp u (sym (good p u (message-right p c (f message) u))))
 
 -- afterwards the judge says good, or unsummed where UDP's 0000 over IPv4 was kept
 pub mended-judged : (p : List ℕ) → mendOf p .0 ≡ Good → judgeOf (mendOf p .1) ≡ (if silentOf p && four p then Unsummed else Good)
 mended-judged p g =
     let c = mended-clear p g in
     let m = mended p c in
-    fresh-judged (mendOf p .1) (rw (whole-same (m .same)) c) (m .fresh .0) (m .fresh .1)
+    fresh-judged (mendOf p .1) (rw (whole-same (m .same)) c) (m .fresh)
     (λ u. four-same (m .same .header) ∙ and-true (silentOf p) (four p) (sym (m .silent) ∙ u) .1)
     ∙ ap (λ b. if b then Unsummed else Good) (m .silent)
 
@@ -105,23 +105,22 @@ word-put p f b =
     let y : wordAt p f % 256 ≡ byteAt p (f + 1) = omega (arith, b (f + 1)) in
     rw (x, y, set-getD p f 0, add-one f) (set-getD p (suc f) 0)
 
-fresh-stands : (p : List ℕ) → Bytes p → HeaderFresh p → MessageFresh p → mendedMessage (mendedHeader p) ≡ p
+fresh-stands : (p : List ℕ) → Bytes p → clear (wholeRules p) → ((s : Sum) → Fresh s p) → mendedMessage (mendedHeader p) ≡ p
 unfolding mendedHeader mendedMessage
-fresh-stands p b h m =
-    let e : mendedHeader p ≡ p = by-cases (four p) (λ f. simp f (rw (sym (h f)) (word-put p headerField b))) (λ f. simp f) in
+fresh-stands p b c fresh =
+    let e : mendedHeader p ≡ p = by-cases (four p) (λ f. simp f (rw (sym (fresh header f)) (word-put p headerField b))) (λ f. simp f) in
     ap mendedMessage e
     ∙ by-cases (silentOf p && four p)
     (λ u. simp u)
-    (λ u. simp u (rw (sym (m u)) (word-put p (fieldAt p) b)))
+    (λ u. simp u (rw (sym (fresh message (simp (clear-carries p c, u)))) (word-put p (fieldAt p) b)))
 
--- to leave a packet as it is means that its fields in use stand fresh
-pub mend-fresh : (p : List ℕ) → Bytes p → mendOf p .0 ≡ Good → (mendOf p .1 ≡ p) ↔ (HeaderFresh p × MessageFresh p)
-mend-fresh p b g =
-    let c = mended-clear p g in
-    let m = mended p c in (
-      λ e. (λ f. ap (λ q. wordAt q headerField) (sym e) ∙ m .header f, λ u. ap (λ q. wordAt q (fieldAt p)) (sym e) ∙ m .message u),
-      λ f. ap (λ (x : Verdict × List ℕ). x .1) (done p c) ∙ fresh-stands p b (f .0) (f .1),
-    )
+-- to leave a packet as it is means, if it carries a message, that its fields in use stand fresh
+pub mend-fresh : (p : List ℕ) → Bytes p → (mendOf p .1 ≡ p) ↔ (carries p ≡ true → (s : Sum) → Fresh s p)
+unfolding mendOf
+mend-fresh p b = (
+  λ e c s u. ap (λ q. wordAt q (placed s p)) (sym e) ∙ mended p (carries-clear p c) .sets s u,
+  λ f. call-either (wholeRules p) p (mendedMessage (mendedHeader p)) (λ q. q ≡ p) refl (λ c. fresh-stands p b c (f (clear-carries p c))),
+)
 
 -- mending twice is mending once, in the answer and in every byte
 pub mended-twice : (p : List ℕ) → Bytes p → mendOf (mendOf p .1) ≡ mendOf p
@@ -132,10 +131,13 @@ mended-twice p b =
     (λ c e.
     let m = both-set p c in
     let q = mendedMessage (mendedHeader p) in
-    done q (rw (whole-same (m .same)) c) ∙ ap (λ r. (Good, r)) (fresh-stands q (m .bytes b) (m .fresh .0) (m .fresh .1)))
+    done q (rw (whole-same (m .same)) c) ∙ ap (λ r. (Good, r)) (fresh-stands q (m .bytes b) (rw (whole-same (m .same)) c) (m .fresh)))
     refl
 
 -- ---- a good packet
+pub outside : (p : List ℕ) (i : ℕ) → (four p ≡ true → (i < headerField) ⊎ (headerField + 1 < i)) → (i < fieldAt p) ⊎ (fieldAt p + 1 < i) → Outside p i
+outside p i h m = each (λ s. used s p ≡ true → (i < placed s p) ⊎ (placed s p + 1 < i)) h (λ u. m)
+
 -- every i is a byte of the header's field, of the message's, or of neither
 where-stands : (p : List ℕ) (i : ℕ) → Outside p i ⊎ ((four p ≡ true) × ((i ≡ headerField) ⊎ (i ≡ headerField + 1))) ⊎ ((i ≡ fieldAt p) ⊎ (i ≡ fieldAt p + 1))
 where-stands p i =
@@ -150,10 +152,10 @@ where-stands p i =
               | yes h ↦ inr (inl (f, inl h))
               | no h ↦ elim (ℕ-discrete i (headerField + 1)) [
                 | yes j ↦ inr (inl (f, inr j))
-                | no j ↦ inl (record { header = λ u. elim (decLt i headerField) [ yes l ↦ inl l | no l ↦ inr (omega arith) ]; message = m })
+                | no j ↦ inl (outside p i (λ u. elim (decLt i headerField) [ yes l ↦ inl l | no l ↦ inr (omega arith) ]) m)
               ]
             ])
-            (λ f. inl (record { header = λ u. absurd (true≢false (sym u ∙ f)); message = m }))
+            (λ f. inl (outside p i (λ u. absurd (true≢false (sym u ∙ f))) m))
       ]
     ]
 
@@ -215,7 +217,7 @@ good-stands p b g i =
     ⊎-elim (λ o. inl (mend-only-fields p i o))
     (⊎-elim
     (λ w.
-    let e = m .header (w .0) in
+    let e = m .sets header (w .0) in
     ⊎-elim
     (λ x. inl (word-bytes p q headerField i b bq (w .1) (e ∙ sym x)))
     (λ x. inr (inl (w .0, w .1, x .0, x .1), zero-bytes q headerField i (w .1) (e ∙ x .1)))
@@ -225,7 +227,7 @@ good-stands p b g i =
     (λ u. inl (word-bytes p q (fieldAt p) i b bq w (m .kept u)))
     (λ u.
     let t = s .message u in
-    let e = m .message u in
+    let e = m .sets message (simp (clear-carries p c, u)) in
     ⊎-elim
     (λ x. inl (word-bytes p q (fieldAt p) i b bq w (e ∙ sym x)))
     (λ x. inr (inr (x .0, w, x .1, x .2), zero-bytes q (fieldAt p) i w (e ∙ x .2)))
