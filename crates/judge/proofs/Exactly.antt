@@ -115,7 +115,7 @@ module _ (p : List ℕ) where
   short-tells (none6 l a b c) size u = absurd (true≢false (rw (l .row) at u))
 
   -- ---- list by list
-  outer-told : Told (outerRules p) (outerCases p)
+  pub outer-told : Told (outerRules p) (outerCases p)
   unfolding outerRules
   outer-told =
       next (eqb-tells (length p) 0, refl) λ a.

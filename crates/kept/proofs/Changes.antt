@@ -22,7 +22,9 @@ use Rattle.cover.proofs.Totals.{addressTotal, restTotal, message-parts}
 use Rattle.cover.proofs.Blocks.{header-out, message-out, message-address, message-in, message-some}
 use Rattle.judge.proofs.Kept.{Accepted}
 use Rattle.mend.specs.Mend.{Outside}
+use Rattle.mend.specs.Fresh.{header, message}
 use Rattle.mend.proofs.Fresh.{sameF}
+use Rattle.mend.proofs.Mending.{outside}
 use Rattle.kept.specs.Update.{messageAfter}
 use Rattle.kept.specs.Edits.{Addressed, addressLeft, allZero, blank, stretchRules, stretchLeft}
 use Rattle.kept.proofs.Done.{header-carry, message-carry, header-self, message-self}
@@ -43,36 +45,34 @@ module _ (p : List ℕ) (by : Bytes p) (c : Accepted p) (at : ℕ) (new : List �
       let low = addresses-low p in
       let w = put-wrote p at new (omega arith) in
       let s = same-step z w (soft-header (k .outer) at (length new) (omega arith) (omega arith) (λ f. (omega arith, inr (let e = low .1 f in omega arith)))) in
-      let h = header-step k by s (bytes-wrote w by bn) at new w (omega arith) (λ f. inr (let e = low .1 f in omega arith)) in
-      let word = h .word ∙ word-above w (fieldAt p) (omega arith) in
+      let h = header-step (k .outer) by s (bytes-wrote w by bn) at new w (omega arith) (λ f. inr (let e = low .1 f in omega arith)) in
+      let word = h .word k ∙ word-above w (fieldAt p) (omega arith) in
       let apart : (i : ℕ) → at ≤ i → i < at + length new → Outside p i =
-      λ i g j. record { header = λ f. inr (let e = low .1 f in omega arith); message = inl (omega arith) } in
+      λ i g j. outside p i (λ f. inr (let e = low .1 f in omega arith)) (inl (omega arith)) in
       by-cases (pseudo p)
       (λ t.
-      let m = message-step k by (h .same) (h .bytes) (at - addressesAt p) at new
-      (rw (h .total) (message-address k z s w (at - addressesAt p) t (omega arith) (l .to))) word (h .kept)
-      (message-some k (sameF k z 0) t) (message-some k (sameF k (h .same) 0) t) (c .quiet) in
+      let m = message-step c by (h .same) (h .bytes) (at - addressesAt p) at new
+      (rw (h .total k) (message-address k z s w (at - addressesAt p) t (omega arith) (l .to))) word (h .kept)
+      (message-some k (sameF k z 0) t) (message-some k (sameF k (h .same) 0) t) in
       simp t
       (record {
-        accepts = c;
         same = m .same;
         bytes = m .bytes;
         header = m .header;
-        message = m .kept;
-        others = λ i o. m .others i (o .message) ∙ h .others i (o .header);
+        message = λ w. m .kept;
+        others = λ i o. m .others i (o message) ∙ h .others i (o header);
         apart = apart;
         fits = omega arith;
       }))
       (λ t.
       simp t
       (record {
-        accepts = c;
         same = h .same;
         bytes = h .bytes;
         header = h .kept;
-        message = message-carry k z (h .same)
-            (h .total ∙ message-out k z s w (omega arith) (λ u. absurd (true≢false (sym u ∙ t)))) word (message-self p);
-        others = λ i o. h .others i (o .header);
+        message = λ c. message-carry k z (h .same)
+            (h .total k ∙ message-out k z s w (omega arith) (λ u. absurd (true≢false (sym u ∙ t)))) word (message-self p);
+        others = λ i o. h .others i (o header);
         apart = apart;
         fits = omega arith;
       }))
@@ -114,16 +114,15 @@ module _ (p : List ℕ) (by : Bytes p) (c : Accepted p) (place : ℕ) where
       let at0 : 0 < messageTotal (putWord p (fieldAt p) 0) = by-cases (pseudo p) (λ t. message-some k (sameF k z 0) t) (λ t. unblank k z (blanks t .0) t) in
       let at1 : 0 < messageTotal (putWord (put p at new) (fieldAt p) 0) = by-cases (pseudo p) (λ t. message-some k (sameF k s 0) t) (λ t. unblank k s (blanks t .1) t) in
       let h = header-carry (k .outer) z s (header-out (k .outer) z s w (omega arith)) (word-below w headerField (omega arith)) (header-self p) in
-      let m = message-step k by s (bytes-wrote w by bn) (at - startOf p) at new
-      (message-in k z s w (at - startOf p) (omega arith) (omega arith)) (word-below w (fieldAt p) (omega arith)) h at0 at1 (c .quiet) in
+      let m = message-step c by s (bytes-wrote w by bn) (at - startOf p) at new
+      (message-in k z s w (at - startOf p) (omega arith) (omega arith)) (word-below w (fieldAt p) (omega arith)) h at0 at1 in
       record {
-        accepts = c;
         same = m .same;
         bytes = m .bytes;
         header = m .header;
-        message = m .kept;
-        others = λ i o. m .others i (o .message);
-        apart = λ i g j. record { header = λ f. inr (omega arith); message = inr (omega arith) };
+        message = λ w. m .kept;
+        others = λ i o. m .others i (o message);
+        apart = λ i g j. outside p i (λ f. inr (omega arith)) (inr (omega arith));
         fits = omega arith;
       }
 
@@ -134,11 +133,10 @@ module _ (p : List ℕ) (by : Bytes p) (c : Accepted p) (place : ℕ) where
       let k = c .facts in
       let fits = ltb-false (endOf p - bodyOf p) (place + 0) (r .0) in
       record {
-        accepts = c;
         same = same-self p;
         bytes = by;
         header = header-self p;
-        message = message-self p;
+        message = λ w. message-self p;
         others = λ i o. refl;
         apart = λ i g j. absurd (omega arith);
         fits = omega arith;

@@ -5,6 +5,7 @@ use native.Mathlib.Omega.{arith}
 use mathlib.Core.List.{List}
 use mathlib.Core.Bool.{Bool, true, false, not, true≢false}
 use lib.ListN.{length}
+use Rattle.verdicts.specs.Rules.{clear}
 use Rattle.sums.specs.Total.{odd, weigh}
 use Rattle.sums.specs.Fold.{fold, fieldOf, passes}
 use Rattle.sums.specs.Update.{updated}
@@ -12,15 +13,15 @@ use Rattle.sums.proofs.Folds.{fold-as}
 use Rattle.sums.proofs.Updates.{update-passes, update-renews}
 use Rattle.wire.specs.Bytes.{wordAt, part, putWord, Bytes}
 use Rattle.wire.specs.Outer.{four, headerField}
-use Rattle.wire.specs.Inner.{fieldAt, silentOf, udp}
+use Rattle.wire.specs.Inner.{fieldAt, silentOf, udp, wholeRules}
 use Rattle.wire.proofs.Facts.{OuterFacts, Facts}
 use Rattle.wire.proofs.Writes.{word-small, word-wrote}
 use Rattle.wire.proofs.Same.{Same, silent-at, field-same, four-same, same-self}
 use Rattle.cover.specs.Sums.{headerTotal, messageTotal, headerSums, messageSums}
 use Rattle.cover.proofs.Blocks.{header-word, message-field, header-some}
 use Rattle.judge.proofs.Answers.{sums4}
-use Rattle.judge.proofs.Kept.{Heard}
-use Rattle.mend.specs.Fresh.{sent, freshHeader, HeaderFresh, MessageFresh}
+use Rattle.judge.proofs.Kept.{Heard, whole-facts}
+use Rattle.mend.specs.Fresh.{sent, freshHeader, header, message, Fresh}
 use Rattle.mend.proofs.Numbers.{sent-some, sent-mod}
 use Rattle.mend.proofs.Fresh.{writeH, writeF, sameH, sameF, asideH, asideF, freshF, header-right, message-right, header-fresh, silent-carry, message-fresh}
 use Rattle.kept.specs.Update.{updatedAt}
@@ -28,14 +29,14 @@ use Rattle.kept.specs.Update.{updatedAt}
 -- from p to q; u says whether the field is updated
 pub record HeaderKept (u : Bool) (p q : List ℕ) : Type 0 where
   pub sums : headerSums q ≡ headerSums p
-  pub fresh : HeaderFresh p → HeaderFresh q
-  pub renewed : u ≡ true → headerSums p ≡ true → HeaderFresh q
+  pub fresh : Fresh header p → Fresh header q
+  pub renewed : u ≡ true → headerSums p ≡ true → Fresh header q
   pub stays : u ≡ false → four p ≡ true → wordAt q headerField ≡ wordAt p headerField
 
 pub record MessageKept (u : Bool) (p q : List ℕ) : Type 0 where
   pub heard : Heard p q
-  pub fresh : MessageFresh p → MessageFresh q
-  pub renewed : u ≡ true → messageSums p ≡ true → MessageFresh q
+  pub fresh : Fresh message p → Fresh message q
+  pub renewed : u ≡ true → messageSums p ≡ true → Fresh message q
   pub stays : u ≡ false → wordAt q (fieldAt p) ≡ wordAt p (fieldAt p)
 
 -- ---- the field is updated
@@ -63,7 +64,7 @@ module _ {p q : List ℕ} (k : OuterFacts p) (by : Bytes p) (a : Same p q) (at :
       let b = block-done (headerTotal p) (headerTotal q) (headerTotal r) (headerTotal (putWord p headerField 0)) (headerTotal (putWord r headerField 0)) _ _
       (wordAt p headerField) v false (word-small p headerField by) t f' refl
       (asideH k z) (ap (λ n. headerTotal (putWord r headerField 0) + n) (sym w) ∙ asideH k sr) (header-some k z) (header-some k (sameH k sr 0)) in
-      let renewed : headerSums p ≡ true → HeaderFresh r = λ s y. w ∙ b .1 (sums4 p (sym (four-same (sr .header)) ∙ y) ∙ s) in
+      let renewed : headerSums p ≡ true → Fresh header r = λ s y. w ∙ b .1 (sums4 p (sym (four-same (sr .header)) ∙ y) ∙ s) in
       record {
         sums = rw (four-same (sr .header), b .0);
         fresh = λ g. renewed (header-right k g);
@@ -71,13 +72,14 @@ module _ {p q : List ℕ} (k : OuterFacts p) (by : Bytes p) (a : Same p q) (at :
         stays = λ n f. absurd (true≢false (sym f ∙ n));
       }
 
-module _ {p q : List ℕ} (k : Facts p) (by : Bytes p) (a : Same p q) (at : ℕ) (new : List ℕ) where
+module _ {p q : List ℕ} (c : clear (wholeRules p)) (by : Bytes p) (a : Same p q) (at : ℕ) (new : List ℕ) where
   pub message-done : (pos : ℕ) → messageTotal q + weigh (odd pos) (part p at (length new)) ≡ messageTotal p + weigh (odd pos) new
       → wordAt q (fieldAt p) ≡ wordAt p (fieldAt p) → silentOf p ≡ false
       → 0 < messageTotal (putWord p (fieldAt p) 0) → 0 < messageTotal (putWord q (fieldAt p) 0)
       → MessageKept (not (silentOf p)) p (putWord q (fieldAt p) (sent (udp p) (updatedAt p (fieldAt p) pos at new)))
   unfolding updatedAt messageSums
   message-done pos t e s some0 some1 =
+      let k = whole-facts p c in
       let v = sent (udp p) (updatedAt p (fieldAt p) pos at new) in
       let r = putWord q (fieldAt p) v in
       let r0 = messageTotal (putWord r (fieldAt p) 0) in
@@ -86,19 +88,19 @@ module _ {p q : List ℕ} (k : Facts p) (by : Bytes p) (a : Same p q) (at : ℕ)
       let f' : messageTotal r + wordAt p (fieldAt p) ≡ messageTotal q + v = rw e at f in
       let w : wordAt r (fieldAt p) ≡ v = word-wrote v (writeF k a v) in
       let z = asideF k (same-self p) in
-      let c : r0 + v ≡ messageTotal r = ap (λ n. r0 + n) (sym w) ∙ asideF k sr in
+      let aside : r0 + v ≡ messageTotal r = ap (λ n. r0 + n) (sym w) ∙ asideF k sr in
       let q0 = messageTotal (putWord q (fieldAt p) 0) in
       let some2 : 0 < r0 =
-      there r0 v (messageTotal r) (wordAt p (fieldAt p)) (messageTotal q) q0 c f' (ap (λ n. q0 + n) (sym e) ∙ asideF k a) some1 in
+      there r0 v (messageTotal r) (wordAt p (fieldAt p)) (messageTotal q) q0 aside f' (ap (λ n. q0 + n) (sym e) ∙ asideF k a) some1 in
       let b = block-done (messageTotal p) (messageTotal q) (messageTotal r) (messageTotal (putWord p (fieldAt p) 0)) r0 _ _
-      (wordAt p (fieldAt p)) v (udp p) (word-small p (fieldAt p) by) t f' refl z c (more _ _ (messageTotal p) z some0) some2 in
-      let renewed : messageSums p ≡ true → MessageFresh r = λ m u. ap (wordAt r) (field-same (sr .header)) ∙ w ∙ b .1 m ∙ sym (freshF k sr) in
+      (wordAt p (fieldAt p)) v (udp p) (word-small p (fieldAt p) by) t f' refl z aside (more _ _ (messageTotal p) z some0) some2 in
+      let renewed : messageSums p ≡ true → Fresh message r = λ m u. ap (wordAt r) (field-same (sr .header)) ∙ w ∙ b .1 m ∙ sym (freshF k sr) in
       record {
         heard = record {
           silent = silent-at sr k ∙ rw w (sent-some (udp p) (updatedAt p (fieldAt p) pos at new)) ∙ sym s;
           sums = λ g. b .0;
         };
-        fresh = λ g. renewed (message-right k g s);
+        fresh = λ g. renewed (message-right p c g s);
         renewed = λ u. renewed;
         stays = λ n. absurd (true≢false (simp s at n));
       }

@@ -4,39 +4,40 @@ use mathlib.Core.Logic.{inl, inr, ⊎-elim}
 use Prim.Native.Nat.{ℕ}
 use native.Mathlib.Omega.{arith}
 use mathlib.Core.List.{List, [], _∷_}
-use mathlib.Core.Bool.{true, false, not}
-use borrow.Author.Tests.{not-true}
+use mathlib.Core.Bool.{true, false}
 use Rattle.verdicts.specs.Rules.{clear}
 use Rattle.verdicts.specs.declared.Verdict.{Verdict}
 use Rattle.verdicts.specs.declared.Verdict.the-variants.{Good}
 use Rattle.verdicts.proofs.Tests.{by-cases, and-true}
 use Rattle.wire.specs.Bytes.{wordAt, Bytes}
 use Rattle.wire.specs.Outer.{four}
-use Rattle.wire.specs.Inner.{silentOf}
-use Rattle.wire.proofs.Same.{field-same, four-same}
+use Rattle.wire.proofs.Same.{field-same}
 use Rattle.judge.specs.Judge.{judgeOf}
 use Rattle.judge.proofs.Accepts.{accepted, verdict-good}
+use Rattle.mend.specs.Fresh.{Sum, header, message, used, standing, freshOf}
 use Rattle.mend.specs.Mend.{mendOf}
+use Rattle.mend.proofs.Fresh.{used-whole, placed-same}
 use Rattle.mend.proofs.Mending.{mended}
 use Rattle.kept.specs.Runs.{Fit, Fits, Edit, apply, run, rulesOf}
-use Rattle.kept.specs.Fields.{Sum, header, message, used, covers, updates, Updated, Right, standing, freshOf}
-use Rattle.kept.proofs.Single.{made, accepted-clear, accepted-done, edit-either, kept, still}
+use Rattle.kept.specs.Fields.{covers, updates, Updated, Right}
+use Rattle.kept.proofs.Single.{made, accepted-clear, accepted-done, edit-either, kept, kept-uses, still}
 use Rattle.kept.proofs.Sequences.{verdict-kept, fresh-kept}
 
 -- ---- one edit
 module _ (e : Edit) (p : List ℕ) (f : Fit e) (b : Bytes p) (c : clear (rulesOf e p)) where
+  made-used : (s : Sum) → used s (made e p) ≡ used s p
+  made-used = kept-uses (kept e p f b c)
+
   made-fresh : (s : Sum) → Right s p → updates s e p ≡ true → standing s (made e p) ≡ freshOf s (made e p)
   made-fresh header r u =
-      let k = kept e p f b c in
-      k .header .renewed u r (four-same (k .same .header) ∙ and-true (covers header e p) (four p) u .1)
+      kept e p f b c .header .renewed u r (made-used header ∙ and-true (covers header e p) (four p) u .1)
   made-fresh message r u =
-      let k = kept e p f b c in
-      let n = not-true (silentOf p) (and-true (covers message e p) (not (silentOf p)) u .1) in
-      k .message .renewed u (r n) (simp (k .message .heard .silent ∙ n))
+      let n = and-true (covers message e p) (used message p) u .1 in
+      kept e p f b c .message (used-whole p n) .renewed u (r n) (made-used message ∙ n)
 
   made-stays : (s : Sum) → used s p ≡ true → updates s e p ≡ false → standing s (made e p) ≡ standing s p
   made-stays header u n = kept e p f b c .header .stays n u
-  made-stays message u n = let k = kept e p f b c in ap (wordAt (made e p)) (field-same (k .same .header)) ∙ k .message .stays n
+  made-stays message u n = let k = kept e p f b c in ap (wordAt (made e p)) (field-same (k .same .header)) ∙ k .message (used-whole p u) .stays n
 
 -- ---- any sequence of edits, refused ones included
 updated-used : (s : Sum) (es : List Edit) (p : List ℕ) → Fits es → Bytes p → Updated s es p → used s p ≡ true
@@ -51,8 +52,7 @@ used-kept s (e ∷ es) p f b = let t = still e p (f .0) b in used-kept s es (app
 
 stays-fresh : (s : Sum) (es : List Edit) (p : List ℕ) → Fits es → Bytes p → used s p ≡ true → standing s p ≡ freshOf s p
     → standing s (run es p) ≡ freshOf s (run es p)
-stays-fresh header es p f b u h = fresh-kept es p f b .0 (λ x. h) (used-kept header es p f b ∙ u)
-stays-fresh message es p f b u h = fresh-kept es p f b .1 (λ x. h) (simp (not-true (silentOf (run es p)) (used-kept message es p f b ∙ u)))
+stays-fresh s es p f b u h = fresh-kept es p f b s (λ x. h) (used-kept s es p f b ∙ u)
 
 -- a field whose sum was right is, once an accepted edit updates it, the fresh one, whatever it was before
 pub updated-fresh : (s : Sum) (es : List Edit) (p : List ℕ) → Fits es → Bytes p → Right s p → Updated s es p
@@ -97,10 +97,9 @@ edited-fresh-run s es p f b j u = updated-fresh s es p f b (good-right s p j) u
 
 -- so the mender, which sets each field in use to the fresh one, would leave it
 mender-sets : (s : Sum) (q : List ℕ) → judgeOf q ≡ Good → used s q ≡ true → standing s (mendOf q .1) ≡ freshOf s q
-mender-sets header q g u = mended q (accepted q Good (omega arith) g .0) .header u
-mender-sets message q g u =
+mender-sets s q g u =
     let m = mended q (accepted q Good (omega arith) g .0) in
-    ap (wordAt (mendOf q .1)) (field-same (m .same .header)) ∙ m .message (simp (not-true (silentOf q) u))
+    ap (wordAt (mendOf q .1)) (placed-same (m .same .header) s) ∙ m .sets s u
 
 pub edited-mended : (s : Sum) (es : List Edit) (p : List ℕ) → Fits es → Bytes p → judgeOf p ≡ Good → Updated s es p
     → standing s (mendOf (run es p) .1) ≡ standing s (run es p)

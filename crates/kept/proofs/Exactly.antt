@@ -16,15 +16,15 @@ use Rattle.verdicts.proofs.Rules.{clear-both}
 use Rattle.verdicts.proofs.Calls.{call-answers}
 use Rattle.verdicts.proofs.Telling.{Tells, eqb-tells, ltb-tells, not-tells, and-tells, or-tells, as-tells, Told, next, told-append, told-exactly}
 use Rattle.wire.specs.Bytes.{byteAt, part, put, putWord}
-use Rattle.wire.specs.Outer.{four, versionOf, lifetimeAt, addressSize, protocolOf}
+use Rattle.wire.specs.Outer.{four, versionOf, lifetimeAt, addressSize, protocolOf, outerRules}
 use Rattle.wire.specs.Inner.{startOf, endOf, lengthOf, fieldAt, bodyOf, wholeRules}
 use Rattle.wire.proofs.Parts.{part-length, part-byte}
-use Rattle.wire.proofs.Facts.{Facts}
+use Rattle.wire.proofs.Facts.{OuterFacts, Facts, outer-facts}
 use Rattle.wire.proofs.Writes.{put-wrote, unwritten}
 use Rattle.judge.specs.Judge.{missingRule}
-use Rattle.judge.specs.Cases.{wholeCases, missingCase}
+use Rattle.judge.specs.Cases.{outerCases, wholeCases, missingCase}
 use Rattle.judge.proofs.Accepts.{shaped}
-use Rattle.judge.proofs.Exactly.{whole-told, missing-told}
+use Rattle.judge.proofs.Exactly.{outer-told, whole-told, missing-told}
 use Rattle.judge.proofs.Kept.{whole-facts}
 use Rattle.kept.specs.Edits.{editRules, lifetimeRules, addressRules, allZero, blank, stretchRules}
 use Rattle.kept.specs.Runs.{Edit, lifetime, address, stretch, apply, rulesOf}
@@ -68,29 +68,28 @@ module _ (p q : List ℕ) (k : Facts p) (l : length q ≡ length p) where
         ]
       ])
 
--- ---- the edits' own rules, where no common one refuses
-module _ (p : List ℕ) (c : clear (editRules p)) where
-  whole : clear (wholeRules p)
-  unfolding editRules
-  whole = clear-both (wholeRules p) (missingRule p) c .0
-
-  known : Facts p
-  known = whole-facts p whole
-
+-- ---- the lifetime's own rule, where no outer one refuses
+module _ (p : List ℕ) (k : OuterFacts p) where
   -- a test by family
   family-tells : {A B : Type 0} (b : Bool) → (four p ≡ true → Tells b A) → (four p ≡ false → Tells b B)
       → Tells b (((versionOf p ≡ 4) × A) ⊎ ((versionOf p ≡ 6) × B))
   family-tells b t u =
       by-cases (four p)
       (λ f. let v = eqb-true (versionOf p) 4 f in as-tells (t f) (λ h. inl (v, h)) (⊎-elim (λ h. h .1) (λ h. absurd (omega arith))))
-      (λ f. let v = known .outer .six f .1 in as-tells (u f) (λ h. inr (v, h)) (⊎-elim (λ h. absurd (omega arith)) (λ h. h .1)))
+      (λ f. let v = k .six f .1 in as-tells (u f) (λ h. inr (v, h)) (⊎-elim (λ h. absurd (omega arith)) (λ h. h .1)))
 
   lifetime-told : Told (lifetimeRules p) (lifetimeCases p)
   lifetime-told =
       next (family-tells (ltb (byteAt p (lifetimeAt p)) 2) (λ f. simp f (ltb-tells (byteAt p 8) 2)) (λ f. simp f (ltb-tells (byteAt p 7) 2)), refl) λ e. tt
 
-  size-tells : (n size : ℕ) → Tells (not (eqb n size)) (n ≢ size)
-  size-tells n size = not-tells (eqb n size) (eqb-tells n size)
+-- ---- and those of the other two, where no common one does
+size-tells : (n size : ℕ) → Tells (not (eqb n size)) (n ≢ size)
+size-tells n size = not-tells (eqb n size) (eqb-tells n size)
+
+module _ (p : List ℕ) (c : clear (editRules p)) where
+  known : Facts p
+  unfolding editRules
+  known = whole-facts p (clear-both (wholeRules p) (missingRule p) c .0)
 
   address-told : (side : ℕ) (new : List ℕ) → Told (addressRules p side new) (addressCases p side new)
   address-told side new =
@@ -99,7 +98,7 @@ module _ (p : List ℕ) (c : clear (editRules p)) where
             (λ n. (λ e. n (inl e), λ e. n (inr e))) (λ n. ⊎-elim (n .0) (n .1)),
         refl,
       ) λ a.
-      next (family-tells (not (eqb (length new) (addressSize p))) (λ f. simp f (size-tells (length new) 4)) (λ f. simp f (size-tells (length new) 16)), refl) λ b.
+      next (family-tells p (known .outer) (not (eqb (length new) (addressSize p))) (λ f. simp f (size-tells (length new) 4)) (λ f. simp f (size-tells (length new) 16)), refl) λ b.
       tt
 
   stretch-told : (place : ℕ) (new : List ℕ) → Told (stretchRules p place new) (stretchCases p place new)
@@ -126,7 +125,8 @@ edit-told p =
     (λ w. let s = shaped p w in missing-told p (s .outer) (s .inner))
 
 told : (e : Edit) (p : List ℕ) → Told (rulesOf e p) (casesOf e p)
-told lifetime p = told-append (editRules p) (lifetimeRules p) (editCases p) (lifetimeCases p) (edit-told p) (lifetime-told p)
+told lifetime p =
+    told-append (outerRules p) (lifetimeRules p) (outerCases p) (lifetimeCases p) (outer-told p) (λ c. lifetime-told p (outer-facts p c))
 told (address side new) p =
     told-append (editRules p) (addressRules p side new) (editCases p) (addressCases p side new) (edit-told p) (λ c. address-told p c side new)
 told (stretch place new) p =

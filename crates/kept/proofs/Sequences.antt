@@ -12,7 +12,7 @@ use Rattle.verdicts.proofs.Rules.{first-map, first-either}
 use Rattle.wire.specs.Bytes.{byteAt, put, Bytes}
 use Rattle.wire.proofs.Writes.{put-wrote}
 use Rattle.judge.specs.Judge.{judgeOf}
-use Rattle.mend.specs.Fresh.{HeaderFresh, MessageFresh}
+use Rattle.mend.specs.Fresh.{Sum, Fresh}
 use Rattle.mend.specs.Mend.{mendOf, Outside}
 use Rattle.kept.specs.Runs.{Fit, Fits, Edit, apply, run, rulesOf, placeOf, newOf, written, bare, Untouched}
 use Rattle.kept.proofs.Single.{made, apply-as, accepted-clear, kept, new-stands, byte-stays, still}
@@ -24,14 +24,10 @@ verdict-kept [] p f b = refl
 verdict-kept (e ∷ es) p f b = let s = still e p (f .0) b in verdict-kept es (apply e p .1) (f .1) (s .bytes) ∙ s .judged
 
 -- ---- the fields
--- a sum field that stood as fresh computation would set it does so afterwards: the header's, and the message's, each on its own
-pub fresh-kept : (es : List Edit) (p : List ℕ) → Fits es → Bytes p
-    → (HeaderFresh p → HeaderFresh (run es p)) × (MessageFresh p → MessageFresh (run es p))
-fresh-kept [] p f b = (λ h. h, λ m. m)
-fresh-kept (e ∷ es) p f b =
-    let s = still e p (f .0) b in
-    let r = fresh-kept es (apply e p .1) (f .1) (s .bytes) in
-    (λ h. r .0 (s .header h), λ m. r .1 (s .message m))
+-- a sum field in use that stood as fresh computation would set it does so afterwards: the header's, and the message's, each on its own
+pub fresh-kept : (es : List Edit) (p : List ℕ) → Fits es → Bytes p → (s : Sum) → Fresh s p → Fresh s (run es p)
+fresh-kept [] p f b s h = h
+fresh-kept (e ∷ es) p f b s h = let t = still e p (f .0) b in fresh-kept es (apply e p .1) (f .1) (t .bytes) s (t .fresh s h)
 
 -- and a packet that mending would leave as it is stays one
 pub mended-kept : (es : List Edit) (p : List ℕ) → Fits es → Bytes p → mendOf p .1 ≡ p → mendOf (run es p) .1 ≡ run es p

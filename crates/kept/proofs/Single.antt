@@ -1,32 +1,36 @@
 -- One edit: that a refused one changes nothing, where its new bytes stand, and what it keeps.
-use mathlib.Core.Path.{_≡_, refl, sym, ap, _∙_}
+use mathlib.Core.Path.{_≡_, refl, sym, ap, ap₂, _∙_}
 use mathlib.Core.Logic.{_⊎_, ⊎-elim}
 use Prim.Native.Nat.{ℕ, _+_, _<_, _≤_}
 use native.Mathlib.Omega.{arith}
 use mathlib.Core.List.{List}
-use mathlib.Core.Bool.{Bool, not}
+use mathlib.Core.Bool.{Bool, not, _&&_}
 use lib.ListN.{length}
 use Rattle.verdicts.specs.Rules.{first, clear}
 use Rattle.verdicts.specs.declared.Verdict.{Verdict}
 use Rattle.verdicts.specs.declared.Verdict.the-variants.{Good}
+use Rattle.verdicts.proofs.Tests.{by-cases}
 use Rattle.verdicts.proofs.Rules.{clear-both}
 use Rattle.verdicts.proofs.Calls.{Refusals, call-refused, call-clear, call-done, call-either}
 use Rattle.wire.specs.Bytes.{byteAt, Bytes}
 use Rattle.wire.specs.Outer.{outerRules}
 use Rattle.wire.specs.Messages.{shapeRules}
-use Rattle.wire.specs.Inner.{bodyOf, messageRules, wholeRules}
+use Rattle.wire.specs.Inner.{bodyOf, messageRules, wholeRules, carries}
 use Rattle.wire.proofs.Writes.{put-wrote}
-use Rattle.wire.proofs.Same.{field-same, four-same, whole-same}
+use Rattle.wire.proofs.Facts.{outer-facts}
+use Rattle.wire.proofs.Same.{carries-same, four-same}
+use Rattle.wire.proofs.Held.{carries-clear}
 use Rattle.judge.specs.Judge.{judgeOf}
 use Rattle.judge.proofs.Kept.{judge-kept}
-use Rattle.mend.specs.Fresh.{HeaderFresh, MessageFresh}
+use Rattle.mend.specs.Fresh.{Sum, header, message, placed, used, Fresh}
 use Rattle.mend.specs.Mend.{mendOf, Outside}
-use Rattle.mend.proofs.Mending.{whole-good, mend-fresh}
+use Rattle.mend.proofs.Fresh.{used-whole, used-sums, placed-same}
+use Rattle.mend.proofs.Mending.{mend-fresh}
 use Rattle.kept.specs.Edits.{editRules, lifetimeRules, lifetimeLeft, lifetimeOf, sideAt, addressRules, addressLeft, addressOf, stretchRules, stretchLeft, stretchOf}
 use Rattle.kept.specs.Runs.{Fit, Edit, lifetime, address, stretch, apply, rulesOf, placeOf, newOf}
-use Rattle.kept.specs.Fields.{Sum, header, message, used, updates, Right}
+use Rattle.kept.specs.Fields.{updates, Right}
 use Rattle.kept.proofs.Sides.{side-addressed}
-use Rattle.kept.proofs.Steps.{accepted, Kept, lifetime-step}
+use Rattle.kept.proofs.Steps.{accepted, in-use, Kept, lifetime-step}
 use Rattle.kept.proofs.Changes.{address-step, stretch-step}
 
 -- what an edit makes of a packet where no rule refuses
@@ -67,14 +71,15 @@ accepted-clear e p g = call-clear (rulesOf e p) p (made e p) (refusals e) (ap (�
 pub kept : (e : Edit) (p : List ℕ) → Fit e → Bytes p → clear (rulesOf e p)
     → Kept (updates header e p) (updates message e p) p (made e p) (placeOf e p) (newOf e p)
 kept lifetime p f b c =
-    let d = clear-both (editRules p) (lifetimeRules p) c in
-    lifetime-step p b (accepted p (d .0))
+    lifetime-step p b (outer-facts p (clear-both (outerRules p) (lifetimeRules p) c .0))
 kept (address side new) p f b c =
     let d = clear-both (editRules p) (addressRules p side new) c in
-    address-step p b (accepted p (d .0)) (sideAt p side) new f (side-addressed p side new (d .1))
+    let a = accepted p (d .0) in
+    rw (in-use a) (address-step p b a (sideAt p side) new f (side-addressed p side new (d .1)))
 kept (stretch place new) p f b c =
     let d = clear-both (editRules p) (stretchRules p place new) c in
-    stretch-step p b (accepted p (d .0)) place new f (d .1)
+    let a = accepted p (d .0) in
+    rw (in-use a) (stretch-step p b a place new f (d .1))
 
 -- its new bytes stand in place
 pub new-stands : (e : Edit) (p : List ℕ) → Fit e → Bytes p → apply e p .0 ≡ Good → (j : ℕ) → j < length (newOf e p)
@@ -100,8 +105,7 @@ byte-stays e p i f b o u =
 pub record Still (p q : List ℕ) : Type 0 where
   pub bytes : Bytes q
   pub judged : judgeOf q ≡ judgeOf p
-  pub header : HeaderFresh p → HeaderFresh q
-  pub message : MessageFresh p → MessageFresh q
+  pub fresh : (s : Sum) → Fresh s p → Fresh s q
   pub mended : mendOf p .1 ≡ p → mendOf q .1 ≡ q
   pub long : length q ≡ length p
   pub outside : (i : ℕ) → Outside p i → Outside q i
@@ -109,13 +113,21 @@ pub record Still (p q : List ℕ) : Type 0 where
   pub right : (s : Sum) → Right s p → Right s q
 
 module _ {h m : Bool} {p q : List ℕ} {at : ℕ} {new : List ℕ} (k : Kept h m p q at new) where
-  kept-uses : (s : Sum) → used s q ≡ used s p
+  pub kept-uses : (s : Sum) → used s q ≡ used s p
   kept-uses header = four-same (k .same .header)
-  kept-uses message = ap not (k .message .heard .silent)
+  kept-uses message =
+      let e = carries-same (k .same) in
+      by-cases (carries p)
+      (λ c. ap₂ (λ c s. c && not s) e (ap₂ _&&_ (k .message (carries-clear p c) .heard .silent) (four-same (k .same .header))))
+      (λ c. simp (e, c))
+
+  kept-fresh : (s : Sum) → Fresh s p → Fresh s q
+  kept-fresh header f = k .header .fresh f
+  kept-fresh message f = λ u. k .message (used-whole p (sym (kept-uses message) ∙ u)) .fresh f u
 
   kept-right : (s : Sum) → Right s p → Right s q
   kept-right header r = k .header .sums ∙ r
-  kept-right message r = λ n. let u = sym (k .message .heard .silent) ∙ n in k .message .heard .sums u ∙ r u
+  kept-right message r = λ n. let u = sym (kept-uses message) ∙ n in k .message (used-whole p u) .heard .sums (used-sums p u) ∙ r u
 
 pub still : (e : Edit) (p : List ℕ) → Fit e → Bytes p → Still p (apply e p .1)
 still e p f b =
@@ -123,8 +135,7 @@ still e p f b =
     (record {
       bytes = b;
       judged = refl;
-      header = λ h. h;
-      message = λ h. h;
+      fresh = λ s h. h;
       mended = λ h. h;
       long = refl;
       outside = λ i o. o;
@@ -136,15 +147,11 @@ still e p f b =
     let s = k .same in
     record {
       bytes = k .bytes;
-      judged = judge-kept s (k .header .sums) (λ w. k .message .heard);
-      header = k .header .fresh;
-      message = k .message .fresh;
-      mended = λ h.
-          let w = k .accepts .whole in
-          let g = mend-fresh p b (whole-good p w) .0 h in
-          mend-fresh (made e p) (k .bytes) (whole-good (made e p) (rw (whole-same s) w)) .1 (k .header .fresh (g .0), k .message .fresh (g .1));
+      judged = judge-kept s (k .header .sums) (λ w. k .message w .heard);
+      fresh = kept-fresh k;
+      mended = λ h. mend-fresh (made e p) (k .bytes) .1 (λ c t. kept-fresh k t (mend-fresh p b .0 h (sym (carries-same s) ∙ c) t));
       long = s .long;
-      outside = λ i o. record { header = λ g. o .header (sym (four-same (s .header)) ∙ g); message = rw (field-same (s .header)) (o .message) };
+      outside = λ i o t u. rw (placed-same (s .header) t) (o t (sym (kept-uses k t) ∙ u));
       uses = kept-uses k;
       right = kept-right k;
     })

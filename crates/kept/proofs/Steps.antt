@@ -4,7 +4,7 @@ use mathlib.Core.Logic.{_⊎_, inl, ⊎-elim}
 use Prim.Native.Nat.{ℕ, zero, suc, _+_, _<_, _≤_}
 use native.Mathlib.Omega.{arith}
 use mathlib.Core.List.{List}
-use mathlib.Core.Bool.{Bool, true, false, not, true≢false}
+use mathlib.Core.Bool.{Bool, true, false, not, _&&_, true≢false}
 use lib.ListN.{length}
 use Rattle.verdicts.specs.Rules.{clear}
 use Rattle.verdicts.proofs.Tests.{by-cases}
@@ -15,17 +15,19 @@ use Rattle.sums.proofs.Updates.{update-small}
 use Rattle.wire.specs.Bytes.{byteAt, wordAt, part, put, putWord, Bytes}
 use Rattle.wire.specs.Outer.{addressesAt, four, headerEnd, headerField, lifetimeAt}
 use Rattle.wire.specs.Inner.{fieldAt, silentOf, udp, wholeRules}
-use Rattle.wire.proofs.Facts.{Facts}
+use Rattle.wire.proofs.Facts.{OuterFacts, Facts, field-behind}
+use Rattle.wire.proofs.Held.{clear-carries}
 use Rattle.wire.proofs.Writes.{Wrote, bytes-word, bytes-wrote, put-wrote, word-above, word-below}
 use Rattle.wire.proofs.Same.{Same, four-same, same-self, same-step, soft-header}
 use Rattle.cover.specs.Sums.{messageTotal, headerSums}
 use Rattle.cover.proofs.Blocks.{header-in, header-out, message-out}
 use Rattle.judge.specs.Judge.{missingRule}
-use Rattle.judge.proofs.Kept.{Accepted, accepted-whole}
-use Rattle.mend.specs.Fresh.{sent}
+use Rattle.judge.proofs.Kept.{Accepted, accepted-whole, whole-facts}
+use Rattle.mend.specs.Fresh.{sent, header, message, used}
 use Rattle.mend.specs.Mend.{Outside}
 use Rattle.mend.proofs.Numbers.{sent-small}
-use Rattle.mend.proofs.Fresh.{writeH, writeF, sameH, sameF, silent-carry}
+use Rattle.mend.proofs.Fresh.{used-sums, writeH, writeF, sameH, sameF, silent-carry, used-carry}
+use Rattle.mend.proofs.Mending.{outside}
 use Rattle.kept.specs.Update.{updatedAt, headerAfter, messageAfter}
 use Rattle.kept.specs.Edits.{editRules, lowered}
 use Rattle.kept.proofs.Done.{HeaderKept, MessageKept, header-done, message-done, header-carry, message-carry, message-self}
@@ -40,14 +42,20 @@ accepted p c =
     (λ f. f)
     (λ f. absurd (true≢false (simp (u, f) at (w .1 .0)))))
 
+-- where the message's field is in use
+pub in-use : {p : List ℕ} → Accepted p → used message p ≡ not (silentOf p)
+in-use {p} c =
+    by-cases (silentOf p)
+    (λ u. simp (clear-carries p (c .whole), u, c .quiet u))
+    (λ u. simp (clear-carries p (c .whole), u))
+
 -- what an edit leaves: new bytes at a place, and beside them only the fields; h says whether the header's is updated, and m whether
 -- the message's
 pub record Kept (h m : Bool) (p q : List ℕ) (at : ℕ) (new : List ℕ) : Type 0 where
-  pub accepts : Accepted p
   pub same : Same p q
   pub bytes : Bytes q
   pub header : HeaderKept h p q
-  pub message : MessageKept m p q
+  pub message : clear (wholeRules p) → MessageKept m p q
   pub others : (i : ℕ) → Outside p i → byteAt q i ≡ byteAt (put p at new) i
   pub apart : (i : ℕ) → at ≤ i → i < at + length new → Outside p i
   pub fits : at + length new ≤ length p
@@ -57,28 +65,28 @@ unfolding updatedAt
 updated-bytes p f pos at new = omega (arith, update-small (wordAt p f) (fold (weigh (odd pos) (part p at (length new)))) (fold (weigh (odd pos) new)))
 
 -- ---- the header's field
-module _ {p q : List ℕ} (k : Facts p) (by : Bytes p) (a : Same p q) (bq : Bytes q) (at : ℕ) (new : List ℕ) (w : Wrote p q at new)
+module _ {p q : List ℕ} (k : OuterFacts p) (by : Bytes p) (a : Same p q) (bq : Bytes q) (at : ℕ) (new : List ℕ) (w : Wrote p q at new)
     (low : at + length new ≤ headerEnd p) (off : four p ≡ true → (at + length new ≤ headerField) ⊎ (headerField + 2 ≤ at)) where
   pub record HeaderStep (r : List ℕ) : Type 0 where
     pub same : Same p r
     pub bytes : Bytes r
     pub kept : HeaderKept (four p) p r
-    pub total : messageTotal r ≡ messageTotal q
-    pub word : wordAt r (fieldAt p) ≡ wordAt q (fieldAt p)
+    pub total : Facts p → messageTotal r ≡ messageTotal q
+    pub word : Facts p → wordAt r (fieldAt p) ≡ wordAt q (fieldAt p)
     pub others : (i : ℕ) → (four p ≡ true → (i < headerField) ⊎ (headerField + 1 < i)) → byteAt r i ≡ byteAt q i
 
   header-step4 : four p ≡ true → HeaderStep (putWord q headerField (updatedAt p headerField at at new))
   header-step4 f =
       let v = updatedAt p headerField at at new in
-      let x = writeH (k .outer) a v in
-      let s = sameH (k .outer) a v in
+      let x = writeH k a v in
+      let s = sameH k a v in
       record {
         same = s;
         bytes = bytes-wrote x bq (bytes-word v (updated-bytes p headerField at at new));
-        kept = header-done (k .outer) by a at new (header-in (k .outer) (same-self p) a w low)
+        kept = header-done k by a at new (header-in k (same-self p) a w low)
             (⊎-elim (λ l. word-above w headerField l) (λ l. word-below w headerField l) (off f));
-        total = message-out k a s x (omega arith) (λ t. simp f (omega arith));
-        word = word-above x (fieldAt p) (omega arith);
+        total = λ m. message-out m a s x (omega arith) (λ t. simp f (omega arith));
+        word = λ m. word-above x (fieldAt p) (omega arith);
         others = λ i o. ⊎-elim (λ l. x .below i l) (λ l. x .above i (omega arith)) (o f);
       }
 
@@ -94,8 +102,8 @@ module _ {p q : List ℕ} (k : Facts p) (by : Bytes p) (a : Same p q) (bq : Byte
           renewed = λ u. absurd (true≢false (sym u ∙ f));
           stays = λ n u. absurd (true≢false (sym u ∙ f));
         };
-        total = refl;
-        word = refl;
+        total = λ m. refl;
+        word = λ m. refl;
         others = λ i o. refl;
       }
 
@@ -104,19 +112,20 @@ module _ {p q : List ℕ} (k : Facts p) (by : Bytes p) (a : Same p q) (bq : Byte
   header-step = by-cases (four p) (λ f. simp f (header-step4 f)) (λ f. simp f (header-step6 f))
 
 -- ---- the message's field
-module _ {p q : List ℕ} {hu : Bool} (k : Facts p) (by : Bytes p) (a : Same p q) (bq : Bytes q) (pos at : ℕ) (new : List ℕ)
+module _ {p q : List ℕ} {hu : Bool} (c : Accepted p) (by : Bytes p) (a : Same p q) (bq : Bytes q) (pos at : ℕ) (new : List ℕ)
     (total : messageTotal q + weigh (odd pos) (part p at (length new)) ≡ messageTotal p + weigh (odd pos) new)
     (word : wordAt q (fieldAt p) ≡ wordAt p (fieldAt p)) (h : HeaderKept hu p q)
-    (some0 : 0 < messageTotal (putWord p (fieldAt p) 0)) (some1 : 0 < messageTotal (putWord q (fieldAt p) 0)) (quiet : silentOf p ≡ true → four p ≡ true) where
+    (some0 : 0 < messageTotal (putWord p (fieldAt p) 0)) (some1 : 0 < messageTotal (putWord q (fieldAt p) 0)) where
   pub record MessageStep (r : List ℕ) : Type 0 where
     pub same : Same p r
     pub bytes : Bytes r
     pub header : HeaderKept hu p r
     pub kept : MessageKept (not (silentOf p)) p r
-    pub others : (i : ℕ) → (i < fieldAt p) ⊎ (fieldAt p + 1 < i) → byteAt r i ≡ byteAt q i
+    pub others : (i : ℕ) → (used message p ≡ true → (i < fieldAt p) ⊎ (fieldAt p + 1 < i)) → byteAt r i ≡ byteAt q i
 
   message-summed : silentOf p ≡ false → MessageStep (putWord q (fieldAt p) (sent (udp p) (updatedAt p (fieldAt p) pos at new)))
   message-summed u =
+      let k = c .facts in
       let v = sent (udp p) (updatedAt p (fieldAt p) pos at new) in
       let x = writeF k a v in
       let s = sameF k a v in
@@ -124,20 +133,22 @@ module _ {p q : List ℕ} {hu : Bool} (k : Facts p) (by : Bytes p) (a : Same p q
         same = s;
         bytes = bytes-wrote x bq (bytes-word v (sent-small (udp p) (updatedAt p (fieldAt p) pos at new) (updated-bytes p (fieldAt p) pos at new)));
         header = header-carry (k .outer) a s (header-out (k .outer) a s x (omega arith)) (word-below x headerField (omega arith)) h;
-        kept = message-done k by a at new pos total word u some0 some1;
-        others = λ i o. ⊎-elim (λ l. x .below i l) (λ l. x .above i (omega arith)) o;
+        kept = message-done (c .whole) by a at new pos total word u some0 some1;
+        others = λ i o. ⊎-elim (λ l. x .below i l) (λ l. x .above i (omega arith)) (o (in-use c ∙ ap not u));
       }
 
   message-silent : silentOf p ≡ true → MessageStep q
   message-silent u =
+      let k = c .facts in
       let z = silent-carry k (same-self p) a word in
+      let still : (silentOf p && four p) ≡ true = simp (u, c .quiet u) in
       record {
         same = a;
         bytes = bq;
         header = h;
         kept = record {
-          heard = record { silent = z; sums = λ g. absurd (true≢false (sym u ∙ g)) };
-          fresh = λ f g. absurd (true≢false (simp (z ∙ u, four-same (a .header) ∙ quiet u) at g));
+          heard = record { silent = z; sums = λ g. absurd (true≢false (sym still ∙ g)) };
+          fresh = λ f g. absurd (true≢false (sym still ∙ used-sums p (sym (used-carry k (same-self p) a word) ∙ g)));
           renewed = λ n. absurd (true≢false (sym n ∙ ap not u));
           stays = λ n. word;
         };
@@ -155,26 +166,26 @@ life-places p =
     (λ f. simp f (omega arith, omega arith, omega arith, λ g. refl))
     (λ f. simp f (omega arith, omega arith, omega arith, λ g. absurd (true≢false (sym g))))
 
-module _ (p : List ℕ) (by : Bytes p) (c : Accepted p) where
+module _ (p : List ℕ) (by : Bytes p) (k : OuterFacts p) where
   pub lifetime-step : Kept (four p) false p (headerAfter p (lifetimeAt p) (lowered p) (put p (lifetimeAt p) (lowered p))) (lifetimeAt p) (lowered p)
   lifetime-step =
-      let k = c .facts in
       let at = lifetimeAt p in
       let l = life-places p in
       let z = same-self p in
       let w = put-wrote p at (lowered p) (omega arith) in
-      let s = same-step z w (soft-header (k .outer) at 1 (l .0) (omega arith) (λ f. let e = l .3 f in (omega arith, inl (omega arith)))) in
+      let s = same-step z w (soft-header k at 1 (l .0) (omega arith) (λ f. let e = l .3 f in (omega arith, inl (omega arith)))) in
       let b = bytes-wrote w by (lowered-bytes) in
       let h = header-step k by s b at (lowered p) w (omega arith) (λ f. inl (let e = l .3 f in omega arith)) in
       record {
-        accepts = c;
         same = h .same;
         bytes = h .bytes;
         header = h .kept;
-        message = message-carry k z (h .same) (h .total ∙ message-out k z s w (omega arith) (λ t. l .2))
-            (h .word ∙ word-above w (fieldAt p) (omega arith)) (message-self p);
-        others = λ i o. h .others i (o .header);
-        apart = λ i g j. record { header = λ f. inl (omega arith); message = inl (omega arith) };
+        message = λ c.
+            let m = whole-facts p c in
+            message-carry m z (h .same) (h .total m ∙ message-out m z s w (omega arith) (λ t. l .2))
+            (h .word m ∙ word-above w (fieldAt p) (omega arith)) (message-self p);
+        others = λ i o. h .others i (o header);
+        apart = λ i g j. outside p i (λ f. inl (omega arith)) (inl (omega (arith, field-behind k)));
         fits = omega arith;
       }
     where

@@ -1,5 +1,5 @@
 -- Fields that stand fresh: their sums are right, and what keeps them so.
-use mathlib.Core.Path.{_≡_, sym, ap, ap₂, _∙_}
+use mathlib.Core.Path.{_≡_, refl, sym, ap, ap₂, _∙_}
 use mathlib.Core.Logic.{inr}
 use Prim.Native.Nat.{ℕ, _+_, _/_, _%_}
 use native.Mathlib.Omega.{arith}
@@ -14,20 +14,24 @@ use Rattle.wire.specs.Outer.{four, headerField}
 use Rattle.wire.specs.Inner.{fieldAt, silentOf, udp, wholeRules, carries}
 use Rattle.wire.proofs.Facts.{OuterFacts, Facts}
 use Rattle.wire.proofs.Writes.{Wrote, put-wrote}
-use Rattle.wire.proofs.Same.{Same, carries-same, field-same, four-same, same-self, same-step, silent-at, soft-header, soft-message, udp-same}
+use Rattle.wire.proofs.Same.{SameHeader, Same, carries-same, field-same, four-same, same-self, same-step, silent-at, soft-header, soft-message, udp-same}
 use Rattle.wire.proofs.Held.{carries-clear, clear-carries}
 use Rattle.cover.specs.Sums.{headerTotal, messageTotal, headerSums, messageSums}
 use Rattle.cover.proofs.Blocks.{header-word, message-field}
 use Rattle.judge.proofs.Answers.{sums4, sums6}
 use Rattle.judge.proofs.Kept.{whole-facts}
 use Rattle.mend.specs.Mend.{mendedHeader}
-use Rattle.mend.specs.Fresh.{sent, freshHeader, freshMessage, Sum, header, message, used, Fresh}
+use Rattle.mend.specs.Fresh.{sent, freshHeader, freshMessage, Sum, header, message, placed, used, Fresh}
 use Rattle.mend.proofs.Numbers.{sent-passes}
 
 -- what holds of both fields
 pub each : (P : Sum → Type 0) → P header → P message → (s : Sum) → P s
 each P h m header = h
 each P h m message = m
+
+-- a field's place, in packets whose headers say the same
+pub placed-same : {p q : List ℕ} → SameHeader p q → (s : Sum) → placed s q ≡ placed s p
+placed-same e = each (λ s. placed s _ ≡ placed s _) refl (field-same e)
 
 -- the message's is in use: there is a message, and it isn't UDP's 0000 over IPv4
 module _ (p : List ℕ) (u : used message p ≡ true) where

@@ -54,6 +54,11 @@ pub begins : {p : List ℕ} → OuterFacts p → (headerEnd p ≤ startOf p) × 
 unfolding startOf
 begins k = (omega arith, omega arith)
 
+-- and its field, if it has one, in it
+pub field-behind : {p : List ℕ} → OuterFacts p → headerEnd p ≤ fieldAt p
+unfolding fieldAt
+field-behind k = let b = begins k in omega arith
+
 module _ {p : List ℕ} (k : OuterFacts p) where
   pub carried-length : length (carriedOf p) ≡ declaredEnd p - startOf p
   unfolding carriedOf
