@@ -10,7 +10,7 @@ use Rattle.verdicts.specs.Rules.{Rule, _⇒_, verdictBy, clear}
 use Rattle.verdicts.specs.declared.Verdict.{Verdict}
 use Rattle.verdicts.specs.declared.Verdict.the-variants.{Good, Unsummed}
 use Rattle.verdicts.proofs.Tests.{by-cases}
-use Rattle.verdicts.proofs.Rules.{clear-first, clear-both, clear-join, Ranks}
+use Rattle.verdicts.proofs.Rules.{clear-first, clear-both, clear-join, past}
 use Rattle.wire.specs.Outer.{four, six, versionOf, headerOf, outerRules, outerOf, fragmentRule, fragmentOf}
 use Rattle.wire.specs.Messages.{shapeRules}
 use Rattle.wire.specs.Inner.{silentOf, messageOf, messageRules, innerOf, wholeRules}
@@ -19,12 +19,6 @@ use Rattle.wire.specs.declared.Part.the-variants as part
 use Rattle.cover.specs.Sums.{headerSums, messageSums}
 use Rattle.judge.specs.Judge.{headerSumRule, sumRules, judgeRules, judgeOf, messageVerdict}
 use Rattle.judge.proofs.Answers.{summed, unsummed, missing, bad, good}
-
--- good or unsummed comes only where no refusal before it holds
-past : (xs ys : List Rule) (v : Verdict) → numberOf v ≤ 1 → Ranks (λ w. 2 ≤ numberOf w) xs → verdictBy (xs ++ ys) ≡ v → clear xs × (verdictBy ys ≡ v)
-past [] ys v h r e = (tt, e)
-past ((true ⇒ w) ∷ xs) ys v h r e = absurd (omega (arith, ap numberOf e, r .0))
-past ((false ⇒ w) ∷ xs) ys v h r e = let q = past xs ys v h (r .1) e in ((refl, q .0), q .1)
 
 -- a packet's shape, in its parts
 pub record Shaped (p : List ℕ) : Type 0 where
@@ -49,7 +43,7 @@ module _ (p : List ℕ) where
   unfolding judgeOf judgeRules wholeRules messageVerdict outerRules messageRules shapeRules
   accepted v h e =
       let later = fragmentRule p ++ messageRules p in
-      let a = past (outerRules p ++ (headerSumRule p ++ later)) (sumRules p) v h (omega arith) e in
+      let a = past (λ w. 2 ≤ numberOf w) (outerRules p ++ (headerSumRule p ++ later)) (sumRules p) v (λ n. omega arith) (omega arith) e in
       let c = clear-both (outerRules p) (headerSumRule p ++ later) (a .0) in
       (clear-join (outerRules p) later (c .0) (c .1 .1), not-false (headerSums p) (c .1 .0), a .1)
 

@@ -2,7 +2,9 @@
 use Prim.Native.Nat.{ℕ}
 use mathlib.Core.Path.{_≡_, refl}
 use mathlib.Core.List.{List, [], _∷_}
-use Rattle.verdicts.specs.declared.Verdict.the-variants.{Good, MessageSum, Blank}
+use mathlib.Core.Bool.{true, false}
+use Rattle.verdicts.specs.declared.Verdict.{Verdict}
+use Rattle.verdicts.specs.declared.Verdict.the-variants.{Good, Shape, HeaderSum, Fragment, Uncovered, Missing, MessageSum, Blank}
 use Rattle.sums.specs.Total.{odd, weigh}
 use Rattle.sums.specs.Fold.{fold, passes}
 use Rattle.sums.specs.Update.{equation3, updated}
@@ -10,10 +12,10 @@ use Rattle.wire.specs.Bytes.{put}
 use Rattle.wire.specs.Outer.{familyOf, headerEnd, declaredEnd, fragmentOf, outerRules, protocolOf}
 use Rattle.wire.specs.Table.{rowOf}
 use Rattle.wire.specs.Messages.{shapeRules}
-use Rattle.wire.specs.Inner.{carriedOf, bodyOf, endOf, fieldAt, messageRules, pseudo, silentOf, startOf, wholeRules}
+use Rattle.wire.specs.Inner.{carriedOf, bodyOf, endOf, fieldAt, messageRules, pseudo, silentOf, startOf, wholeRules, carries}
 use Rattle.cover.specs.Sums.{headerTotal, messageTotal, headerSums, messageSums}
 use Rattle.judge.specs.Judge.{sumRules, judgeRules, judgeOf}
-use Rattle.mend.specs.Fresh.{sent, freshMessage}
+use Rattle.mend.specs.Fresh.{sent, freshHeader, freshMessage, header, message, used}
 use Rattle.kept.specs.Update.{updatedAt, headerAfter, messageAfter}
 use Rattle.kept.specs.Edits.{editRules, lifetimeOf, addressOf, blank, stretchOf}
 use Rattle.kept.specs.Runs.{lifetime, address, stretch, apply, run}
@@ -35,6 +37,43 @@ forwarded : run (lifetime ∷ address 0 (0xC0 ∷ 0xA8 ∷ 0x00 ∷ 0xC7 ∷ [])
     ≡ datagram 0x3F 0xB9 0xB6 0xC7 0x01 0x0E 0x47 0x48 0x69
 unfolding weigh fold equation3 updated put odd familyOf startOf headerEnd carriedOf endOf declaredEnd protocolOf fragmentOf outerRules rowOf fieldAt bodyOf pseudo silentOf messageRules shapeRules wholeRules sent updatedAt headerAfter messageAfter editRules lifetimeOf addressOf
 forwarded = refl
+
+-- ---- a lifetime is lowered whatever is carried, and the verdict stays
+-- IPv4 with these flags, lifetime, protocol and header field, and ten bytes of which the fifth and sixth are UDP's length
+abbrev carrier : ℕ → ℕ → ℕ → ℕ → ℕ → ℕ → ℕ → List ℕ
+carrier flags offset life protocol high low size =
+    0x45 ∷ 0x00 ∷ 0x00 ∷ 0x1E ∷ 0x00 ∷ 0x00 ∷ flags ∷ offset ∷ life ∷ protocol ∷ high ∷ low ∷ 0xC0 ∷ 0xA8 ∷ 0x00 ∷ 0x01 ∷ 0xC0 ∷ 0xA8 ∷ 0x00 ∷ 0xC7
+    ∷ 0x13 ∷ 0x88 ∷ 0x13 ∷ 0x89 ∷ 0x00 ∷ size ∷ 0x0E ∷ 0x47 ∷ 0x48 ∷ 0x69 ∷ []
+
+-- UDP over IPv6 with the field 0000
+abbrev missing : ℕ → List ℕ
+missing life =
+    0x60 ∷ 0x00 ∷ 0x00 ∷ 0x00 ∷ 0x00 ∷ 0x0A ∷ 0x11 ∷ life
+    ∷ 0xFD ∷ 0x00 ∷ 0x00 ∷ 0x00 ∷ 0x00 ∷ 0x00 ∷ 0x00 ∷ 0x00 ∷ 0x00 ∷ 0x00 ∷ 0x00 ∷ 0x00 ∷ 0x00 ∷ 0x00 ∷ 0x00 ∷ 0x01
+    ∷ 0xFD ∷ 0x00 ∷ 0x00 ∷ 0x00 ∷ 0x00 ∷ 0x00 ∷ 0x00 ∷ 0x00 ∷ 0x00 ∷ 0x00 ∷ 0x00 ∷ 0x00 ∷ 0x00 ∷ 0x00 ∷ 0x00 ∷ 0x02
+    ∷ 0x13 ∷ 0x88 ∷ 0x13 ∷ 0x89 ∷ 0x00 ∷ 0x0A ∷ 0x00 ∷ 0x00 ∷ 0x48 ∷ 0x69 ∷ []
+
+abbrev Lowered : Verdict → List ℕ → List ℕ → Type 0
+Lowered v p q = (judgeOf p ≡ v) × (apply lifetime p ≡ (Good, q)) × (judgeOf q ≡ v)
+
+-- a wrong header sum, a fragment, a protocol that isn't covered, a UDP length that isn't the message's, a missing sum
+lowered : Lowered HeaderSum (carrier 0x40 0x00 0x40 0x11 0xB8 0xB7 0x0A) (carrier 0x40 0x00 0x3F 0x11 0xB9 0xB7 0x0A)
+    × Lowered Fragment (carrier 0x20 0x01 0x40 0x11 0xD8 0xB5 0x0A) (carrier 0x20 0x01 0x3F 0x11 0xD9 0xB5 0x0A)
+    × Lowered Uncovered (carrier 0x40 0x00 0x40 0x2F 0xB8 0x98 0x0A) (carrier 0x40 0x00 0x3F 0x2F 0xB9 0x98 0x0A)
+    × Lowered Shape (carrier 0x40 0x00 0x40 0x11 0xB8 0xB6 0x0B) (carrier 0x40 0x00 0x3F 0x11 0xB9 0xB6 0x0B)
+    × Lowered Missing (missing 0x40) (missing 0x3F)
+unfolding weigh fold passes equation3 updated put odd familyOf startOf headerEnd carriedOf endOf declaredEnd protocolOf fragmentOf outerRules rowOf fieldAt bodyOf pseudo silentOf messageRules shapeRules headerTotal messageTotal headerSums messageSums sumRules judgeRules judgeOf sent updatedAt headerAfter lifetimeOf
+lowered = ((refl, refl, refl), (refl, refl, refl), (refl, refl, refl), (refl, refl, refl), (refl, refl, refl))
+
+-- a fragment among other edits: they are refused, and its header's field, the only one in use, stands fresh
+fragment-edited : (apply (address 1 (0xC0 ∷ 0xA8 ∷ 0x00 ∷ 0x09 ∷ [])) (carrier 0x20 0x01 0x40 0x11 0xD8 0xB5 0x0A) .0 ≡ Fragment)
+    × (apply (stretch 0 (0xFF ∷ [])) (carrier 0x20 0x01 0x40 0x11 0xD8 0xB5 0x0A) .0 ≡ Fragment)
+    × (run (lifetime ∷ stretch 0 (0xFF ∷ []) ∷ address 1 (0xC0 ∷ 0xA8 ∷ 0x00 ∷ 0x09 ∷ []) ∷ lifetime ∷ []) (carrier 0x20 0x01 0x40 0x11 0xD8 0xB5 0x0A)
+    ≡ carrier 0x20 0x01 0x3E 0x11 0xDA 0xB5 0x0A)
+    × (used header (carrier 0x20 0x01 0x3E 0x11 0xDA 0xB5 0x0A) ≡ true) × (used message (carrier 0x20 0x01 0x3E 0x11 0xDA 0xB5 0x0A) ≡ false)
+    × (freshHeader (carrier 0x20 0x01 0x3E 0x11 0xDA 0xB5 0x0A) ≡ 0xDAB5)
+unfolding weigh fold equation3 updated put odd familyOf startOf headerEnd carriedOf endOf declaredEnd protocolOf fragmentOf outerRules rowOf fieldAt bodyOf pseudo silentOf messageRules shapeRules wholeRules carries headerTotal freshHeader sent updatedAt headerAfter messageAfter editRules lifetimeOf addressOf blank stretchOf
+fragment-edited = (refl, refl, refl, refl, refl, refl)
 
 -- ---- no negative zero
 -- TCP over IPv4: its field and its data

@@ -7,4 +7,5 @@ pub mod Single
 pub mod Exactly
 pub mod Sequences
 pub mod Edited
+pub mod Lifetime
 pub mod Examples
