@@ -1,12 +1,12 @@
 -- What the judge asks of a packet that it does not refuse.
-use mathlib.Core.Path.{_≡_, refl, sym, ap, _∙_}
+use mathlib.Core.Path.{_≡_, sym, ap, _∙_}
 use Prim.Native.Nat.{ℕ, _≤_}
 use native.Mathlib.Omega.{arith}
-use mathlib.Core.List.{List, [], _∷_, _++_}
+use mathlib.Core.List.{List, _++_}
 use mathlib.Core.Bool.{true, false, _||_}
 use borrow.Author.Tests.{eqb-true, not-false}
 use Rattle.verdicts.specs.Numbers.{numberOf}
-use Rattle.verdicts.specs.Rules.{Rule, _⇒_, verdictBy, clear}
+use Rattle.verdicts.specs.Rules.{clear}
 use Rattle.verdicts.specs.declared.Verdict.{Verdict}
 use Rattle.verdicts.specs.declared.Verdict.the-variants.{Good, Unsummed}
 use Rattle.verdicts.proofs.Tests.{by-cases}

@@ -22,7 +22,7 @@ use Rattle.wire.proofs.Same.{carries-same, four-same}
 use Rattle.wire.proofs.Held.{carries-clear}
 use Rattle.judge.specs.Judge.{judgeOf}
 use Rattle.judge.proofs.Kept.{judge-kept}
-use Rattle.mend.specs.Fresh.{Sum, header, message, placed, used, Fresh}
+use Rattle.mend.specs.Fresh.{Sum, header, message, used, Fresh}
 use Rattle.mend.specs.Mend.{mendOf, Outside}
 use Rattle.mend.proofs.Fresh.{used-whole, used-sums, placed-same}
 use Rattle.mend.proofs.Mending.{mend-fresh}

@@ -6,7 +6,7 @@ use native.Mathlib.Omega.{arith}
 use native.Mathlib.Decide.{ℕ-discrete, decLt}
 use native.Mathlib.Numerals.{add-one}
 use mathlib.Core.List.{List}
-use mathlib.Core.Bool.{true, false, not, _&&_, true≢false}
+use mathlib.Core.Bool.{true, false, _&&_, true≢false}
 use lib.ListN.{length}
 use lib.Seq.{set-getD}
 use borrow.Author.Tests.{eqb-false}
@@ -67,9 +67,6 @@ module _ (p : List ℕ) where
   done : clear (wholeRules p) → mendOf p ≡ (Good, mendedMessage (mendedHeader p))
   unfolding mendOf
   done c = call-done (wholeRules p) p (mendedMessage (mendedHeader p)) c
-
-  pub whole-good : clear (wholeRules p) → mendOf p .0 ≡ Good
-  whole-good c = ap (λ (x : Verdict × List ℕ). x .0) (done c)
 
   mended-clear : mendOf p .0 ≡ Good → clear (wholeRules p)
   unfolding mendOf wholeRules outerRules messageRules shapeRules
