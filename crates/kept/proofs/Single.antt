@@ -18,8 +18,8 @@ use Rattle.wire.specs.Messages.{shapeRules}
 use Rattle.wire.specs.Inner.{bodyOf, messageRules, wholeRules, carries}
 use Rattle.wire.proofs.Writes.{put-wrote}
 use Rattle.wire.proofs.Facts.{outer-facts}
-use Rattle.wire.proofs.Same.{carries-same, four-same}
-use Rattle.wire.proofs.Held.{carries-clear}
+use Rattle.wire.proofs.Same.{four-same}
+use Rattle.wire.proofs.Held.{carries-clear, carries-same}
 use Rattle.judge.specs.Judge.{judgeOf}
 use Rattle.judge.proofs.Kept.{judge-kept}
 use Rattle.mend.specs.Fresh.{Sum, header, message, used, Fresh}

@@ -14,8 +14,8 @@ use Rattle.wire.specs.Outer.{four, headerField}
 use Rattle.wire.specs.Inner.{fieldAt, silentOf, udp, wholeRules, carries}
 use Rattle.wire.proofs.Facts.{OuterFacts, Facts}
 use Rattle.wire.proofs.Writes.{Wrote, put-wrote}
-use Rattle.wire.proofs.Same.{SameHeader, Same, carries-same, field-same, four-same, same-self, same-step, silent-at, soft-header, soft-message, udp-same}
-use Rattle.wire.proofs.Held.{carries-clear, clear-carries}
+use Rattle.wire.proofs.Same.{SameHeader, Same, field-same, four-same, same-self, same-step, silent-at, soft-header, soft-message, udp-same}
+use Rattle.wire.proofs.Held.{carries-clear, clear-carries, carries-same}
 use Rattle.cover.specs.Sums.{headerTotal, messageTotal, headerSums, messageSums}
 use Rattle.cover.proofs.Blocks.{header-word, message-field}
 use Rattle.judge.proofs.Answers.{sums4, sums6}
@@ -36,7 +36,7 @@ placed-same e = each (λ s. placed s _ ≡ placed s _) refl (field-same e)
 -- the message's is in use: there is a message, and it isn't UDP's 0000 over IPv4
 module _ (p : List ℕ) (u : used message p ≡ true) where
   pub used-whole : clear (wholeRules p)
-  used-whole = carries-clear p (and-true (carries p) (not (silentOf p && four p)) u .0)
+  used-whole = carries-clear p (and-true (carries p) _ u .0)
 
   pub used-sums : (silentOf p && four p) ≡ false
   used-sums = not-true (silentOf p && four p) (and-true (carries p) (not (silentOf p && four p)) u .1)
