@@ -2,6 +2,7 @@
 
 mod captures;
 mod corners;
+mod lifetimes;
 mod packets;
 mod sums;
 mod zeros;
@@ -74,6 +75,7 @@ pub fn stored(seed: u64) -> Result<(Vec<u8>, u64), String> {
     maker.joins();
     maker.long_chains();
     maker.zeros();
+    maker.lifetimes_of_any();
     if let Some(cover) = &maker.cover {
         cover.check()?;
     }
@@ -95,6 +97,7 @@ pub fn fuzz(seed: u64, count: u64, out: &mut impl Write) -> io::Result<()> {
             23..=26 => maker.any_long(),
             27..=36 => maker.any_sequence(),
             37..=38 => maker.any_zeros(),
+            39..=46 => maker.any_lifetimes(),
             _ => maker.any_faults(),
         }
         out.write_all(&maker.bytes)?;

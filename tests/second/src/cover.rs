@@ -1,10 +1,12 @@
 // What the stored cases must reach, and the check that they do. Each thing reached is a line of plain words.
 
+mod lifetimes;
+
 use crate::answer::*;
 use crate::capture::{edition_wrong, mark_wrong, whole_records};
 use crate::draft::KINDS;
 use crate::edit;
-use crate::judge::{judge, JUDGED, RULES};
+use crate::judge::{judge, Rule, RULES};
 use crate::mend::{self, fresh_header_field, fresh_message_field};
 use crate::packet::{View, HEADER_FIELD, ICMP, ICMPV6, TABLE, TCP, UDP};
 use crate::sums::{passes, Field};
@@ -14,13 +16,13 @@ use std::collections::BTreeSet;
 
 #[derive(Default)]
 pub struct Cover {
-    /// The verdicts of each operation, and what an edit makes of the fields that it updates; these must be those the
-    /// paper makes possible, and no others.
+    /// The verdicts of each operation, what an edit makes of the fields that it updates and of the verdict, and what
+    /// the lifetime edit changes; these must be those the paper makes possible, and no others.
     exact: BTreeSet<String>,
     /// All else that was reached; there may be more than is wanted.
     reached: BTreeSet<String>,
-    /// Whether the case before was an edit, and its verdict.
-    edited: Option<Verdict>,
+    /// The operation of the case before, and its verdict.
+    last: Option<(u8, Verdict)>,
 }
 
 /// A rule that applies, or could: its name and number.
@@ -80,20 +82,23 @@ impl Cover {
         if before.len() + 1 == view.end() {
             self.reach(format!("{operation} of IPv{}: one byte missing, verdict {verdict}", view.family));
         }
-        if let (JUDGE, LEFT, Some(edit_verdict)) = (case.operation, case.source, self.edited) {
-            self.reach(format!("judge after an edit's {edit_verdict}"));
+        if let (LEFT, Some((before, its_verdict))) = (case.source, self.last) {
+            self.reach(format!("{}'s {its_verdict}, then {operation}: {verdict}", OPERATIONS[before as usize]));
         }
-        self.edited = (LIFETIME..=STRETCH).contains(&case.operation).then_some(verdict);
+        self.last = Some((case.operation, verdict));
+        if verdict != GOOD && before != after {
+            self.exact.insert(format!("{operation} refused with {verdict}: bytes changed"));
+        } else if verdict == GOOD && (LIFETIME..=STRETCH).contains(&case.operation) {
+            let (was, is) = (judge(before), judge(after));
+            self.exact.insert(format!("{operation} of IPv{}, verdict {was}: {is} afterwards", view.family));
+        }
         if before.len() > view.end() && verdict == GOOD {
             self.reach(format!("{operation} of IPv{}: a tail", view.family));
         }
         match case.operation {
             JUDGE => self.note_judged(&view, verdict),
             MEND if verdict == GOOD => self.note_fields(case, &View::new(after), true, true),
-            LIFETIME if verdict == GOOD => {
-                self.note_fields(case, &View::new(after), true, false);
-                self.note_updated(case, &view, &View::new(after));
-            }
+            LIFETIME => self.note_lifetime(case, &view, &View::new(after), verdict),
             ADDRESS => self.note_address(case, &view, after, verdict),
             STRETCH => self.note_stretch(case, &view, after, verdict),
             _ => {}
@@ -329,13 +334,14 @@ fn kind_name((family, protocol): (u8, u8)) -> String {
 }
 
 /// The rules an operation looks at.
-fn looked_at(operation: u8) -> impl Iterator<Item = &'static crate::judge::Rule> {
-    let numbers: &[Verdict] = match operation {
-        JUDGE => &JUDGED,
-        MEND => &mend::REFUSED,
-        _ => &edit::REFUSED,
+fn looked_at(operation: u8) -> impl Iterator<Item = &'static Rule> {
+    let looked_at = match operation {
+        JUDGE => |_: &Rule| true,
+        MEND => mend::refused,
+        LIFETIME => edit::refused_lifetime,
+        _ => edit::refused,
     };
-    RULES.iter().filter(move |rule| numbers.contains(&rule.number))
+    RULES.iter().filter(move |rule| looked_at(rule))
 }
 
 /// Every refusal of a case that applies by itself, in order.
@@ -412,6 +418,13 @@ fn wanted_exactly() -> BTreeSet<String> {
     wanted.extend([GOOD, PLACE].map(|number| format!("chain: {number}")));
     let together = [("under 2^64 - 1", GOOD), ("2^64 - 1", GOOD), ("2^64", PLACE), ("over 2^64", PLACE)];
     wanted.extend(together.map(|(lengths, number)| format!("join, lengths together {lengths}: {number}")));
+    wanted.extend(lifetimes::wanted_exactly());
+    for operation in [ADDRESS, STRETCH] {
+        let name = OPERATIONS[operation as usize];
+        for (family, verdicts) in [(4, &[GOOD, UNSUMMED, HEADER_SUM, MESSAGE_SUM][..]), (6, &[GOOD, MESSAGE_SUM])] {
+            wanted.extend(verdicts.iter().map(|v| format!("{name} of IPv{family}, verdict {v}: {v} afterwards")));
+        }
+    }
     for kind in KINDS {
         let name = kind_name(kind);
         for (operation, field) in updates_of(kind) {
@@ -423,18 +436,16 @@ fn wanted_exactly() -> BTreeSet<String> {
             };
             let edit = OPERATIONS[operation as usize];
             wanted.extend(verdicts.iter().map(|v| format!("{edit} of {name}, verdict {v}: {field} field fresh")));
-            if operation != LIFETIME {
-                let sent = if field == "message" && kind.1 == UDP { "FFFF" } else { "0000" };
-                wanted.insert(format!("{name}: {field} field FFFF, fold FFFF to 0000: {sent}"));
-            }
+            let sent = if field == "message" && kind.1 == UDP { "FFFF" } else { "0000" };
+            wanted.insert(format!("{name}: {field} field FFFF, fold FFFF to 0000: {sent}"));
         }
     }
     wanted
 }
 
-/// Each edit with each field that it updates in packets of a kind.
+/// The address and the stretch edit, with each field that they update in packets of a kind.
 fn updates_of((family, protocol): (u8, u8)) -> Vec<(u8, &'static str)> {
-    let all = [(LIFETIME, "header"), (ADDRESS, "header"), (ADDRESS, "message"), (STRETCH, "message")];
+    let all = [(ADDRESS, "header"), (ADDRESS, "message"), (STRETCH, "message")];
     let covered = |(operation, field): &(u8, &str)| match *field {
         "header" => family == 4,
         _ => *operation == STRETCH || protocol != ICMP,
@@ -449,6 +460,7 @@ fn wanted_else() -> BTreeSet<String> {
     wanted.extend(wanted_fields());
     wanted.extend(wanted_zeros());
     wanted.extend(wanted_edits());
+    wanted.extend(lifetimes::wanted());
     wanted.extend(wanted_captures());
     wanted.extend(wanted_sums());
     wanted
@@ -487,8 +499,15 @@ fn wanted_lengths() -> Vec<String> {
             wanted.push(format!("{name}: message of {}, verdict {GOOD}", row.fixed));
         }
     }
-    for (family, verdicts) in [(4, &[CUT, SHAPE, FRAGMENT, UNCOVERED][..]), (6, &[CUT, SHAPE, UNCOVERED])] {
-        for name in (JUDGE..=STRETCH).map(|operation| OPERATIONS[operation as usize]) {
+    for operation in JUDGE..=STRETCH {
+        for family in [4, 6] {
+            let verdicts: &[Verdict] = match (operation, family) {
+                (LIFETIME, 4) => &[GOOD, CUT, SHAPE, SPENT],
+                (LIFETIME, _) => &[GOOD, CUT, SPENT],
+                (_, 4) => &[CUT, SHAPE, FRAGMENT, UNCOVERED],
+                _ => &[CUT, SHAPE, UNCOVERED],
+            };
+            let name = OPERATIONS[operation as usize];
             let least = |verdict| format!("{name} of IPv{family}: just the least bytes, verdict {verdict}");
             wanted.extend(verdicts.iter().map(least));
             wanted.push(format!("{name} of IPv{family}: one byte missing, verdict {CUT}"));
@@ -543,7 +562,6 @@ fn wanted_zeros() -> Vec<String> {
         let verdicts: &[Verdict] = if kind.0 == 4 { &[GOOD, HEADER_SUM, MESSAGE_SUM] } else { &[GOOD, MESSAGE_SUM] };
         for (operation, field) in updates_of(kind) {
             let places: &[&str] = match operation {
-                LIFETIME => &[],
                 ADDRESS => &["side 0", "side 1"],
                 _ => &STRETCHED,
             };
@@ -591,7 +609,11 @@ fn wanted_edits() -> Vec<String> {
             wanted.push(format!("address of {length} bytes in IPv{family}: {verdict}"));
         }
     }
-    wanted.extend([GOOD, PLACE, SPENT, BLANK].map(|verdict| format!("judge after an edit's {verdict}")));
+    for operation in LIFETIME..=STRETCH {
+        let own = own_rules(operation).iter().map(|rule| rule.1);
+        let name = OPERATIONS[operation as usize];
+        wanted.extend(own.chain([GOOD]).map(|verdict| format!("{name}'s {verdict}, then judge: {GOOD}")));
+    }
     wanted
 }
 

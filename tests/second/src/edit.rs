@@ -1,13 +1,20 @@
 // The three edits: lifetime, address and stretch. Each updates the fields it touches and never works them out afresh.
 
-use crate::judge::first;
+use crate::judge::{first, Rule};
 use crate::mend::write_field;
 use crate::packet::{View, HEADER_FIELD, ICMP, UDP};
 use crate::sums::{fold, total_at, update, Field};
 use crate::verdict::*;
 
-/// What every edit refuses first.
-pub const REFUSED: [Verdict; 6] = [CUT, VERSION, SHAPE, FRAGMENT, UNCOVERED, MISSING];
+/// What the address and the stretch edit refuse first.
+pub fn refused(rule: &Rule) -> bool {
+    [CUT, VERSION, SHAPE, FRAGMENT, UNCOVERED, MISSING].contains(&rule.number)
+}
+
+/// What the lifetime edit refuses first: 2, 3 and 4 only from the IP header and the declared length.
+pub fn refused_lifetime(rule: &Rule) -> bool {
+    ["no bytes", "version", "under 20 or 40", "header length", "total length", "declared"].contains(&rule.name)
+}
 
 /// Whether the lifetime is 0 or 1.
 pub fn spent(view: &View) -> bool {
@@ -87,7 +94,7 @@ fn replace(packet: &mut [u8], place: usize, new: &[u8]) -> Vec<u8> {
 /// Makes the lifetime one less.
 pub fn lower_lifetime(packet: &mut [u8]) -> Verdict {
     let view = View::new(packet);
-    if let Some(refusal) = first(&view, &REFUSED) {
+    if let Some(refusal) = first(&view, refused_lifetime) {
         return refusal;
     }
     if spent(&view) {
@@ -103,7 +110,7 @@ pub fn lower_lifetime(packet: &mut [u8]) -> Verdict {
 /// Sets the source (side 0) or the destination (side 1).
 pub fn set_address(packet: &mut [u8], side: u32, address: &[u8]) -> Verdict {
     let view = View::new(packet);
-    if let Some(refusal) = first(&view, &REFUSED) {
+    if let Some(refusal) = first(&view, refused) {
         return refusal;
     }
     if no_side(side.into()) || address_misfit(&view, address) {
@@ -123,7 +130,7 @@ pub fn set_address(packet: &mut [u8], side: u32, address: &[u8]) -> Verdict {
 /// Puts new bytes into the body, at a place counted from its first byte.
 pub fn set_stretch(packet: &mut [u8], place: u64, new: &[u8]) -> Verdict {
     let view = View::new(packet);
-    if let Some(refusal) = first(&view, &REFUSED) {
+    if let Some(refusal) = first(&view, refused) {
         return refusal;
     }
     if stretch_misfit(&view, place, new) {

@@ -53,15 +53,12 @@ fn udp_zero(view: &View) -> bool {
     view.protocol() == UDP && view.word(view.field_place()) == 0
 }
 
-/// The number of the first rule that applies, of those whose numbers are looked at.
-pub fn first(view: &View, numbers: &[Verdict]) -> Option<Verdict> {
-    RULES.iter().find(|rule| numbers.contains(&rule.number) && (rule.applies)(view)).map(|rule| rule.number)
+/// The number of the first rule that applies, of those that are looked at.
+pub fn first(view: &View, looked_at: impl Fn(&Rule) -> bool) -> Option<Verdict> {
+    RULES.iter().find(|rule| looked_at(rule) && (rule.applies)(view)).map(|rule| rule.number)
 }
 
 /// The verdict on a packet.
 pub fn judge(packet: &[u8]) -> Verdict {
-    first(&View::new(packet), &JUDGED).unwrap_or(GOOD)
+    first(&View::new(packet), |_| true).unwrap_or(GOOD)
 }
-
-/// Every number the rules can give.
-pub const JUDGED: [Verdict; 9] = [UNSUMMED, CUT, VERSION, SHAPE, HEADER_SUM, FRAGMENT, UNCOVERED, MISSING, MESSAGE_SUM];

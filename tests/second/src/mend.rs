@@ -1,12 +1,14 @@
 // The mender: fresh fields, each worked out with that field read as 0000.
 
-use crate::judge::first;
+use crate::judge::{first, Rule};
 use crate::packet::{View, HEADER_FIELD, UDP};
 use crate::sums::{field, fold, total, Field};
 use crate::verdict::*;
 
 /// What the mender refuses.
-pub const REFUSED: [Verdict; 5] = [CUT, VERSION, SHAPE, FRAGMENT, UNCOVERED];
+pub fn refused(rule: &Rule) -> bool {
+    [CUT, VERSION, SHAPE, FRAGMENT, UNCOVERED].contains(&rule.number)
+}
 
 /// The field of a block with its own field, at `place`, read as 0000.
 fn computed(mut block: Vec<u8>, place: usize) -> Field {
@@ -41,7 +43,7 @@ pub fn write_field(packet: &mut [u8], place: usize, field: Field) {
 /// Sets the fields of a packet to their fresh values; UDP's 0000 in IPv4 stays.
 pub fn mend(packet: &mut [u8]) -> Verdict {
     let view = View::new(packet);
-    if let Some(refusal) = first(&view, &REFUSED) {
+    if let Some(refusal) = first(&view, refused) {
         return refusal;
     }
     let (family, place) = (view.family, view.field_place());

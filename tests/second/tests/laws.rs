@@ -256,7 +256,7 @@ fn udp_zero_is_kept_in_ipv4_and_missing_in_ipv6() {
         let (verdict, edited) = if family == 4 { (1, 0) } else { (8, 8) };
         assert_eq!(judge(&packet), verdict);
         assert_eq!(set_stretch(&mut packet, 1, &[1, 2, 3]), edited);
-        assert_eq!(lower_lifetime(&mut packet), edited);
+        assert_eq!(lower_lifetime(&mut packet), 0);
         assert_eq!(judge(&packet), verdict);
         assert_eq!(mend(&mut packet), 0);
         assert_eq!(judge(&packet), if family == 4 { 1 } else { 0 });

@@ -7,6 +7,13 @@ use crate::answer::*;
 use crate::draft::{declare, faults_of, refresh, spoil, Fault, Shape, KINDS};
 use crate::packet::{View, ICMP, ICMPV6, TCP, UDP};
 
+/// Faults that no edit refuses, but for 0000 in UDP over IPv6.
+const HARMLESS: [Fault; 4] = [Fault::Zero, Fault::HeaderSum, Fault::MessageSum, Fault::Blank];
+
+/// Faults that every edit but the lifetime's refuses; 0000 only in UDP over IPv6.
+pub const PASSED_OVER: [Fault; 5] =
+    [Fault::InnerLength, Fault::MessageLength, Fault::Protocol, Fault::Fragment, Fault::Zero];
+
 impl Maker {
     pub fn packets(&mut self) {
         self.packet_examples();
@@ -25,7 +32,7 @@ impl Maker {
             self.any_faults();
         }
         for _ in 0..60 {
-            self.any_sequence();
+            self.sequence(&HARMLESS);
         }
         self.protocols();
         self.header_lengths();
@@ -208,7 +215,7 @@ impl Maker {
     }
 
     /// One more call on what is left, done or refused.
-    fn step(&mut self, body: usize, family: u8) {
+    pub fn step(&mut self, body: usize, family: u8) {
         let (right, wrong) = if family == 4 { (4, 16) } else { (16, 4) };
         match self.random.between(0, 11) {
             0 | 1 => self.left(LIFETIME, 0, &[]),
@@ -233,11 +240,16 @@ impl Maker {
         }
     }
 
-    /// Edits one after the other, some refused, on a packet that may be damaged; in the end it is mended twice.
+    /// Edits on a packet of any kind, every third time perhaps one that the lifetime edit alone takes.
     pub fn any_sequence(&mut self) {
+        let faults = if self.random.once_in(3) { &PASSED_OVER[..] } else { &HARMLESS };
+        self.sequence(faults);
+    }
+
+    /// Edits one after the other, some refused, on a packet that may have a fault; in the end it is mended twice.
+    fn sequence(&mut self, faults: &[Fault]) {
         let kind = self.any_kind();
-        let harmless = [Fault::Zero, Fault::HeaderSum, Fault::MessageSum, Fault::Blank];
-        let faults: Vec<Fault> = faults_of(kind).into_iter().filter(|fault| harmless.contains(fault)).collect();
+        let faults: Vec<Fault> = faults_of(kind).into_iter().filter(|fault| faults.contains(fault)).collect();
         let packet = match faults.len() {
             n if n > 0 && self.random.once_in(2) => {
                 let fault = self.random.pick(&faults);
