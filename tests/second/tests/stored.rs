@@ -1,7 +1,8 @@
 // The stored cases and answers are those of seed 1; the case format is read as CASES.md says.
 
-use second::answer::{Case, Desk, Next};
+use second::answer::{Case, Desk, Next, ADDRESS, LEFT, LIFETIME, STRETCH};
 use second::cases;
+use second::judge::judge;
 use second::packet::View;
 use second::updates::updated_fields;
 use std::collections::BTreeMap;
@@ -45,7 +46,7 @@ fn fuzz_cases_are_well_formed_and_the_same_from_the_same_seed() {
 #[test]
 fn fuzz_reaches_long_chains_and_both_answers_of_a_join() {
     let mut bytes = Vec::new();
-    cases::fuzz(9, 30_000, &mut bytes).unwrap();
+    cases::fuzz(9, 60_000, &mut bytes).unwrap();
     let (mut input, mut desk, mut long, mut joins) = (&bytes[..], Desk::default(), 0, [0, 0]);
     while let Next::Case(case) = Case::read(&mut input).unwrap() {
         desk.lay(&case);
@@ -77,6 +78,34 @@ fn fuzz_reaches_each_update_where_equation_3_answers_ffff() {
         }
     }
     assert!(alone >= 100 && edits.len() == 9 && edits.values().all(|count| *count >= 20), "{alone} {edits:?}");
+}
+
+/// Each verdict that the lifetime edit passes over, lowered and spent; and the lifetime lowered right after another
+/// edit refused the same packet.
+#[test]
+fn fuzz_reaches_lifetimes_of_packets_that_the_other_edits_refuse() {
+    let mut bytes = Vec::new();
+    cases::fuzz(9, 60_000, &mut bytes).unwrap();
+    let (mut input, mut desk, mut last, mut met) = (&bytes[..], Desk::default(), String::new(), BTreeMap::new());
+    while let Next::Case(case) = Case::read(&mut input).unwrap() {
+        desk.lay(&case);
+        let (family, verdict) = (View::new(&desk.buffer).family, judge(&desk.buffer));
+        let answer = desk.answer(&case);
+        if case.operation == LIFETIME && (4..=8).contains(&verdict) {
+            for lowered in ["0 ", "11 "] {
+                *met.entry((family, verdict, lowered)).or_insert(0) += u32::from(answer.starts_with(lowered));
+            }
+            let again = case.source == LEFT && answer.starts_with("0 ") && last.starts_with(&format!("{verdict} "));
+            *met.entry((family, verdict, "again")).or_insert(0) += u32::from(again);
+        }
+        last = if (ADDRESS..=STRETCH).contains(&case.operation) { answer } else { String::new() };
+    }
+    for (family, verdict) in [(4, 4), (4, 6), (4, 7), (6, 4), (6, 7), (6, 8)] {
+        for (what, least) in [("0 ", 60), ("11 ", 20), ("again", 10)] {
+            let count = met[&(family, verdict, what)];
+            assert!(count >= least, "IPv{family}, verdict {verdict}, {what}: {count}");
+        }
+    }
 }
 
 #[test]
