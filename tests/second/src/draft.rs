@@ -8,6 +8,13 @@ use crate::sums::Field;
 /// Every family with its protocols.
 pub const KINDS: [(u8, u8); 6] = [(4, ICMP), (4, TCP), (4, UDP), (6, TCP), (6, UDP), (6, ICMPV6)];
 
+/// Families with protocols that aren't in the table for them, IPv6's headers between among them.
+#[rustfmt::skip]
+pub const UNCOVERED: [(u8, u8); 18] = [
+    (4, 0), (4, 2), (4, 41), (4, 44), (4, 47), (4, 50), (4, ICMPV6), (4, 255),
+    (6, 0), (6, ICMP), (6, 43), (6, 44), (6, 50), (6, 51), (6, 59), (6, 60), (6, 135), (6, 255),
+];
+
 /// What a good packet looks like: lengths in bytes, the IPv4 header length and TCP's data offset in words.
 #[derive(Clone, Copy)]
 pub struct Shape {
@@ -163,6 +170,9 @@ const BEFORE_SUMS: [Fault; 9] =
 
 /// The faults made when the sums stand, in the order of their making.
 const AFTER_SUMS: [Fault; 5] = [Zero, HeaderSum, MessageSum, Declared, Under];
+
+/// Faults that every edit but the lifetime's refuses; 0000 only in UDP over IPv6.
+pub const PASSED_OVER: [Fault; 5] = [InnerLength, MessageLength, Protocol, Fragment, Zero];
 
 /// The faults that a packet of this kind can have.
 pub fn faults_of((family, protocol): (u8, u8)) -> Vec<Fault> {

@@ -3,16 +3,12 @@
 
 use second::answer::{Case, ADDRESS, GIVEN, JUDGE, LIFETIME};
 use second::cover::Cover;
-use second::draft::{declare, faults_of, spoil, write_word, Fault, Shape, KINDS};
+use second::draft::{declare, faults_of, spoil, write_word, Fault, Shape, KINDS, PASSED_OVER, UNCOVERED};
 use second::edit::{lower_lifetime, set_address, set_stretch};
 use second::judge::judge;
 use second::mend::{fresh_header_field, mend};
 use second::packet::{View, HEADER_FIELD, TCP, UDP};
 use second::random::Random;
-
-/// Faults that the other edits refuse and this one passes over.
-const PASSED_OVER: [Fault; 5] =
-    [Fault::Fragment, Fault::Protocol, Fault::MessageLength, Fault::InnerLength, Fault::Zero];
 
 /// A packet with one to three faults that are passed over, or none that fits, and perhaps a wrong sum.
 fn any_passed_over(random: &mut Random) -> Vec<u8> {
@@ -49,7 +45,7 @@ fn a_fragment_written_out() {
 #[test]
 fn ipv6_is_not_walked() {
     let mut random = Random(50);
-    for next in [0, 1, 43, 44, 50, 51, 59, 60, 135, 255] {
+    for (_, next) in UNCOVERED.into_iter().filter(|kind| kind.0 == 6) {
         let mut packet = Shape::plain((6, UDP), 20).good(&mut random);
         (packet[6], packet[7]) = (next, 2);
         // whatever the header between says of itself

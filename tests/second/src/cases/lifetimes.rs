@@ -1,10 +1,11 @@
 // Cases of the lifetime edit on packets that the other edits refuse: fragments, protocols that aren't covered, messages
 // of a wrong shape, and UDP over IPv6 without a sum. Their message is data: no place of it is a field or a length.
 
-use super::packets::PASSED_OVER;
 use super::Maker;
 use crate::answer::*;
-use crate::draft::{declare, faults_of, spoil, write_word, Fault, Shape, KINDS};
+use crate::draft::{
+    balance_header, declare, faults_of, spoil, write_word, Fault, Shape, KINDS, PASSED_OVER, UNCOVERED,
+};
 use crate::mend::{fresh_header_field, write_field};
 use crate::packet::{View, HEADER_FIELD, ICMP, ICMPV6, TABLE, TCP, UDP};
 
@@ -17,8 +18,17 @@ const PARTS: [&[u16]; 3] =
 /// The table's protocols, one of them of the other family, and one that isn't in it.
 const IN_FRAGMENTS: [u8; 5] = [ICMP, TCP, UDP, ICMPV6, 47];
 
-const UNCOVERED_4: [u8; 8] = [0, 2, 41, 44, 47, 50, ICMPV6, 255];
-const UNCOVERED_6: [u8; 10] = [0, ICMP, 43, 44, 50, 51, 59, 60, 135, 255];
+/// A packet with a given lifetime, its header field fresh.
+fn aged(packet: &[u8], lifetime: u8) -> Vec<u8> {
+    let mut packet = packet.to_vec();
+    let place = View::new(&packet).lifetime_place();
+    packet[place] = lifetime;
+    if View::new(&packet).family == 4 {
+        let field = fresh_header_field(&View::new(&packet));
+        write_field(&mut packet, HEADER_FIELD, field);
+    }
+    packet
+}
 
 impl Maker {
     pub fn lifetimes_of_any(&mut self) {
@@ -35,32 +45,19 @@ impl Maker {
         self.down_to_one();
     }
 
-    /// A packet with a given lifetime, its header field fresh.
-    fn aged(&mut self, packet: &[u8], lifetime: u8) -> Vec<u8> {
-        let mut packet = packet.to_vec();
-        let view = View::new(&packet);
-        let (family, place) = (view.family, view.lifetime_place());
-        packet[place] = lifetime;
-        if family == 4 {
-            let field = fresh_header_field(&View::new(&packet));
-            write_field(&mut packet, HEADER_FIELD, field);
-        }
-        packet
-    }
-
     /// A lifetime edit of a packet with each of four lifetimes.
     fn lowered(&mut self, packet: &[u8]) {
         for lifetime in LIFETIMES {
-            let packet = self.aged(packet, lifetime);
+            let packet = aged(packet, lifetime);
             self.given(LIFETIME, 0, &packet, &[]);
             self.left(JUDGE, 0, &[]);
         }
     }
 
-    /// Two lifetime edits down to 1, and edits and mends that are refused before, between and after; only the mender may
-    /// take the packet.
+    /// Two lifetime edits down to 1 and one that is refused there, with calls between that refuse the packet; the mender
+    /// takes it if it has no other fault than 0000 in UDP over IPv6.
     fn in_turn(&mut self, packet: &[u8]) {
-        let (packet, length) = (self.aged(packet, 3), View::new(packet).address_length());
+        let (packet, length) = (aged(packet, 3), View::new(packet).address_length());
         let (address, new) = (self.random.contents(length), self.random.contents(1));
         self.given(JUDGE, 0, &packet, &[]);
         for operation in [LIFETIME, ADDRESS, STRETCH, LIFETIME, JUDGE, LIFETIME, ADDRESS] {
@@ -115,8 +112,8 @@ impl Maker {
     /// 0000, FFFF and another word at the place where the field of a whole packet stands.
     fn fields_place_in_fragments(&mut self) {
         for protocol in [ICMP, TCP, UDP, ICMPV6] {
-            for word in [0x0000, 0xFFFF, 0x1234] {
-                let flags = self.random.pick(PARTS[usize::from(word % 3)]);
+            for (word, parts) in [0x0000, 0xFFFF, 0x1234].into_iter().zip(PARTS) {
+                let flags = self.random.pick(parts);
                 let mut packet = self.fragment(Shape::plain((4, protocol), 24), 24, flags);
                 let place = View::new(&packet).field_place();
                 write_word(&mut packet, place, word);
@@ -139,14 +136,13 @@ impl Maker {
 
     /// Protocols that aren't in the table for a family, before a message that could be UDP.
     fn uncovered(&mut self) -> Vec<Vec<u8>> {
-        let (four, six) = (UNCOVERED_4.map(|protocol| (4, protocol)), UNCOVERED_6.map(|protocol| (6, protocol)));
         let packet = |(family, protocol)| {
             let mut packet = self.any_good((family, UDP));
             let place = View::new(&packet).protocol_place();
             packet[place] = protocol;
             packet
         };
-        four.into_iter().chain(six).map(packet).collect()
+        UNCOVERED.into_iter().map(packet).collect()
     }
 
     /// Messages under their fixed header, TCP offsets below 5 words and just past the message, UDP lengths that are one
@@ -200,7 +196,7 @@ impl Maker {
     fn lowered_with(&mut self, kind: (u8, u8), faults: &[Fault]) {
         for lifetime in LIFETIMES {
             let good = self.any_good(kind);
-            let mut packet = self.aged(&good, lifetime);
+            let mut packet = aged(&good, lifetime);
             spoil(&mut packet, kind.0, faults, &mut self.random);
             self.given(LIFETIME, 0, &packet, &[]);
             self.left(JUDGE, 0, &[]);
@@ -226,12 +222,9 @@ impl Maker {
         for (protocol, parts) in IN_FRAGMENTS.into_iter().zip(PARTS.into_iter().cycle()) {
             let packet = self.fragment(Shape::plain((4, protocol), 24), 24, parts[0]);
             for (balanced, lifetime) in [(63, 64), (64, 64)] {
-                let mut packet = self.aged(&packet, balanced);
-                // the identification takes up what the field has, so that 0000 is fresh at this lifetime
-                let id = View::new(&packet).word(4);
-                let field = View::new(&packet).word(HEADER_FIELD);
-                write_word(&mut packet, 4, ((u32::from(id) + u32::from(field) - 1) % 65535 + 1) as u16);
-                let mut packet = self.aged(&packet, lifetime);
+                let mut packet = aged(&packet, balanced);
+                balance_header(&mut packet);
+                let mut packet = aged(&packet, lifetime);
                 if balanced == lifetime {
                     write_word(&mut packet, HEADER_FIELD, 0xFFFF);
                 }
@@ -250,7 +243,7 @@ impl Maker {
         let mut missing = Shape::plain((6, UDP), 8).good(&mut self.random);
         write_word(&mut missing, 46, 0);
         for packet in [fragment, between, missing] {
-            let packet = self.aged(&packet, 255);
+            let packet = aged(&packet, 255);
             let address = self.random.contents(View::new(&packet).address_length());
             self.given(JUDGE, 0, &packet, &[]);
             for lifetime in (0..256).rev() {
@@ -278,7 +271,7 @@ impl Maker {
         }
         let good = self.any_good(kind);
         let lifetime = self.random.pick(&[0, 1, 2, 2, 3, 3, 4, 9, 64, 255]);
-        let mut packet = self.aged(&good, lifetime);
+        let mut packet = aged(&good, lifetime);
         spoil(&mut packet, kind.0, &faults, &mut self.random);
         let body = View::new(&packet).body_length();
         self.given(JUDGE, 0, &packet, &[]);

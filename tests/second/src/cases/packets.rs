@@ -4,15 +4,11 @@
 use super::sums::big_endian;
 use super::Maker;
 use crate::answer::*;
-use crate::draft::{declare, faults_of, refresh, spoil, Fault, Shape, KINDS};
+use crate::draft::{declare, faults_of, refresh, spoil, Fault, Shape, KINDS, PASSED_OVER};
 use crate::packet::{View, ICMP, ICMPV6, TCP, UDP};
 
 /// Faults that no edit refuses, but for 0000 in UDP over IPv6.
 const HARMLESS: [Fault; 4] = [Fault::Zero, Fault::HeaderSum, Fault::MessageSum, Fault::Blank];
-
-/// Faults that every edit but the lifetime's refuses; 0000 only in UDP over IPv6.
-pub const PASSED_OVER: [Fault; 5] =
-    [Fault::InnerLength, Fault::MessageLength, Fault::Protocol, Fault::Fragment, Fault::Zero];
 
 impl Maker {
     pub fn packets(&mut self) {

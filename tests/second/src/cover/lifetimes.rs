@@ -2,6 +2,7 @@
 // fragments, protocols that aren't covered, and messages of any shape, which the other edits refuse.
 
 use super::*;
+use crate::draft::UNCOVERED as UNCOVERED_KINDS;
 
 /// The lifetimes that are tried in every kind of packet.
 const LIFETIMES: [&str; 4] = ["0", "1", "2", "255"];
@@ -14,10 +15,6 @@ const PASSED_OVER: [Named; 5] = [
     ("TCP or UDP length", SHAPE),
     ("zero in IPv6", MISSING),
 ];
-
-/// Protocols that aren't in the table for a family, IPv6's headers between among them.
-const UNCOVERED_4: [u8; 8] = [0, 2, 41, 44, 47, 50, 58, 255];
-const UNCOVERED_6: [u8; 10] = [0, 1, 43, 44, 50, 51, 59, 60, 135, 255];
 
 /// Fragments by their flag and offset.
 const PARTS: [&str; 3] = ["first", "middle", "last"];
@@ -33,7 +30,8 @@ impl Cover {
         let others: Vec<Named> =
             looked_at(ADDRESS).filter(|rule| (rule.applies)(before)).map(|rule| (rule.name, rule.number)).collect();
         let first = others.first().map_or("nothing", |rule| rule.0);
-        self.exact.insert(format!("{name}, {first} refused elsewhere, lifetime {lifetime}: {verdict}"));
+        let what = format!("{name}, {first} refused elsewhere, lifetime {lifetime}");
+        self.exact.insert(format!("lower lifetime of {what}: {verdict}"));
         for what in descriptions(before) {
             self.reach(format!("lower lifetime, {what}, lifetime {lifetime}: {verdict}"));
         }
@@ -47,17 +45,17 @@ impl Cover {
         self.note_fields(case, after, true, false);
         self.note_updated(case, before, after);
         if part(before).is_some() && passes(before.header()) {
-            self.reach(format!("a fragment's header field {:04X} to {:04X}", corner(before), corner(after)));
+            self.reach(format!("a fragment's header field: {} to {}", word_name(before, 10), word_name(after, 10)));
         }
     }
 }
 
-/// A header field at a corner, or 0001 for all others.
-fn corner(view: &View) -> u16 {
-    match view.word(HEADER_FIELD) {
-        0x0000 => 0x0000,
-        0xFFFF => 0xFFFF,
-        _ => 0x0001,
+/// The word at a place, if it is a corner.
+fn word_name(view: &View, place: usize) -> &'static str {
+    match view.word(place) {
+        0x0000 => "0000",
+        0xFFFF => "FFFF",
+        _ => "another word",
     }
 }
 
@@ -125,7 +123,7 @@ fn descriptions(view: &View) -> Vec<String> {
         all.push(format!("{kind}, data offset {offset}"));
     }
     if fits && view.protocol() == UDP {
-        all.push(format!("{kind}, length {} too long", view.udp_length() as i32 - length as i32));
+        all.push(format!("{kind}, length off by {}", view.udp_length() as i32 - length as i32));
     }
     all
 }
@@ -140,12 +138,9 @@ fn message_name(view: &View) -> &'static str {
 }
 
 /// The word at the place where the field of a whole packet stands, if there is one.
-fn in_the_fields_place(view: &View) -> Option<String> {
+fn in_the_fields_place(view: &View) -> Option<&'static str> {
     let room = view.row().map_or(false, |row| view.message_length() >= row.field + 2);
-    room.then(|| match view.word(view.field_place()) {
-        word @ (0x0000 | 0xFFFF) => format!("{word:04X}"),
-        _ => "another word".to_string(),
-    })
+    room.then(|| word_name(view, view.field_place()))
 }
 
 /// The answer for a lifetime, by the first refusal of the other edits.
@@ -165,7 +160,8 @@ pub fn wanted_exactly() -> Vec<String> {
         for rule in rules.into_iter().chain(PASSED_OVER.map(|rule| rule.0)).filter(|rule| in_family(rule, family)) {
             for lifetime in LIFETIMES.into_iter().chain(["another"]) {
                 let verdict = answer(rule, lifetime);
-                wanted.push(format!("IPv{family}, {rule} refused elsewhere, lifetime {lifetime}: {verdict}"));
+                let what = format!("IPv{family}, {rule} refused elsewhere, lifetime {lifetime}");
+                wanted.push(format!("lower lifetime of {what}: {verdict}"));
             }
         }
     }
@@ -188,8 +184,8 @@ pub fn wanted_exactly() -> Vec<String> {
 
 pub fn wanted() -> Vec<String> {
     let mut wanted = wanted_fragments();
-    for (family, uncovered) in [(4, &UNCOVERED_4[..]), (6, &UNCOVERED_6)] {
-        wanted.extend(with_lifetimes(uncovered.iter().map(|number| format!("protocol {number} in IPv{family}"))));
+    wanted.extend(with_lifetimes(UNCOVERED_KINDS.map(|(family, number)| format!("protocol {number} in IPv{family}"))));
+    for family in [4, 6] {
         let rules: Vec<Named> = PASSED_OVER.into_iter().filter(|rule| in_family(rule.0, family)).collect();
         let meeting = pairs(&rules).into_iter().filter(|(a, b)| can_meet(a.0, b.0));
         wanted.extend(meeting.map(|(a, b)| format!("lower lifetime of IPv{family} over {} and {}", a.0, b.0)));
@@ -235,7 +231,9 @@ fn wanted_fragments() -> Vec<String> {
         let what = format!("lower lifetime, fragment, header longer than its {what}");
         wanted.extend(LIFETIMES.map(|lifetime| format!("{what}, lifetime {lifetime}: {verdict}")));
     }
-    wanted.extend(["0001 to 0000", "FFFF to 0001"].map(|words| format!("a fragment's header field {words}")));
+    wanted.extend(
+        ["another word to 0000", "FFFF to another word"].map(|words| format!("a fragment's header field: {words}")),
+    );
     wanted
 }
 
@@ -250,7 +248,7 @@ fn shapes(family: u8) -> Vec<String> {
                 all.extend((0..5).map(|offset| format!("{kind}, data offset {offset}")));
                 all.push(format!("{kind}, data offset just past the message"));
             }
-            UDP => all.extend([-1, 1].map(|more| format!("{kind}, length {more} too long"))),
+            UDP => all.extend([-1, 1].map(|more| format!("{kind}, length off by {more}"))),
             _ => {}
         }
     }
