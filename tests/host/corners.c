@@ -1,5 +1,6 @@
 /* Packets that meet the rare branches by design: totals that are multiples of 65535, fields at 0000, FFFF and beside
- * them, changes of 0, 1 and 65534; and messages of every length at every address modulo 32.
+ * them, changes of 0, 1 and 65534; messages of every length at every address modulo 32; and lifetimes in packets that
+ * no other edit takes.
  *
  * What is wanted is the answer of model.h. After each call the verdict and every byte are compared, and in the end each
  * rare branch of the model must have been taken.
@@ -95,6 +96,7 @@ static void freshen(struct packet *p)
 static void build(struct packet *p, const struct kind *kind, size_t options, size_t message)
 {
     p->kind = kind;
+    p->fault = 0;
     p->header = kind->family == 4 ? 20 + options : 40;
     p->len = p->header + message;
     for (size_t i = 0; i < p->len; i++)
@@ -112,6 +114,38 @@ static void build(struct packet *p, const struct kind *kind, size_t options, siz
     p->bytes[kind->family == 4 ? 8 : 7] = 64;
     shape(p);
     freshen(p);
+}
+
+/* Ways to spoil what lies behind an IP header, or what the header says of it. */
+enum spoil { FIRST, MIDDLE, LAST, OTHER, EMPTY, SHORT, LESS, MORE, SPOILS };
+
+/* Makes a packet a fragment (in IPv6 one with a header between), gives it another protocol, cuts its message and its
+ * declared length, or has TCP or UDP say another length. The header field becomes fresh. Answers 0 if this kind of
+ * packet can't be spoiled so. */
+static int spoil(struct packet *p, enum spoil how)
+{
+    static const unsigned flags[] = {0x2000, 0x60B9, 0x1FFF}, between[] = {44, 0, 60};
+    int four = p->kind->family == 4;
+    uint8_t *message = p->bytes + p->header;
+    if (how <= LAST && four)
+        put(p->bytes + 6, flags[how]);
+    else if (how <= OTHER)
+        p->bytes[four ? 9 : 6] = (uint8_t)(how == OTHER ? 47 : between[how]);
+    else if (how <= SHORT) {
+        p->len = p->header + (how == EMPTY ? 0 : p->kind->fixed - 1);
+        put(p->bytes + (four ? 2 : 4), four ? p->len : p->len - 40);
+    } else if (p->kind->protocol == TCP)
+        message[12] = how == LESS ? 0x40 : 0xF0;
+    else if (p->kind->protocol == UDP)
+        put(message + 4, message_len(p) + (how == MORE) - (how == LESS));
+    else
+        return 0;
+    p->fault = how <= LAST && four ? 6 : how <= OTHER ? 7 : 4;
+    if (four) {
+        put(p->bytes + 10, 0);
+        put(p->bytes + 10, 65535 - fold(total(p->bytes, p->header)));
+    }
+    return 1;
 }
 
 /* Changes a word so that a total becomes a multiple of 65535. */
@@ -261,6 +295,44 @@ static void lifetimes(void)
     group("lifetimes");
 }
 
+/* The same in packets that no other edit takes. The other calls are tried on them too, and after the model lowered a
+ * lifetime the library must judge as before. */
+static void lifetimes_before_anything(void)
+{
+    static const uint8_t new[16] = {0xFD, 1, 2};
+    for (size_t k = 0; k < KINDS; k++)
+        for (unsigned how = 0; how < SPOILS; how++) {
+            size_t four = kinds[k].family == 4, lifetime_at = four ? 8 : 7;
+            build(&p, &kinds[k], how % 2 ? 8 : 0, kinds[k].fixed + 4);
+            if (!spoil(&p, how))
+                continue;
+            copy(&q, &p);
+            for (unsigned field = 0; field < 65536 && four; field += k == 1 && how == FIRST ? 1 : 251) {
+                put(q.bytes + 10, field);
+                hold(LOWER, &q, 2, 0, NULL, 0);
+            }
+            for (unsigned lifetime = 0; lifetime < 256; lifetime++) {
+                p.bytes[lifetime_at] = (uint8_t)lifetime;
+                if (four)
+                    balance_header(&p);
+                for (unsigned c = 0; c < CORNERS; c++) {
+                    if (four)
+                        put(p.bytes + 10, corners[c]);
+                    hold(LOWER, &p, 3, 0, NULL, 0);
+                }
+                if (four)
+                    put(p.bytes + 10, corners[lifetime % 2 ? 0 : lifetime / 2 % CORNERS]);
+                hold(JUDGE, &p, 3, 0, NULL, 0);
+                hold(MEND, &p, 3, 0, NULL, 0);
+                hold(ADDRESS, &p, 3, lifetime % 2, new, four ? 4 : 16);
+                hold(STRETCH, &p, 3, 0, new, 1);
+                lower(&p);
+                hold(JUDGE, &p, 3, 0, NULL, 0);
+            }
+        }
+    group("lifetimes in packets that no other edit takes");
+}
+
 /* Pairs of old and new words whose difference is a corner. */
 static const struct {
     unsigned old, new;
@@ -379,6 +451,7 @@ static unsigned long branches(void)
                            : b == BLANK_BEFORE || b == BLANK_AFTER               ? icmp
                            : b == HEADER_ZERO || b == HEADER_FULL                ? four
                            : b == UPDATED_HEADER || b == FULL_HEADER             ? four
+                           : b == LOWERED_SILENT                                 ? udp && !four
                                                                                  : 1;
             if ((met[k][b] != 0) != possible) {
                 printf("corners: failed: branch %u was met %lu times, IPv%u, protocol %u\n", b, met[k][b],
@@ -396,6 +469,7 @@ int main(void)
     multiples();
     blanks();
     lifetimes();
+    lifetimes_before_anything();
     addresses();
     stretches();
     to_multiples();

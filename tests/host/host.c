@@ -651,13 +651,150 @@ static void lifetime(void)
     p[29] = 0x6A;
     expect(lower(p, 30), 0, "lower a damaged packet");
     expect(judge(p, 30), 9, "it stays damaged");
-    put(p + 6, 0x2000);
-    expect(lower(p, 30), 6, "lower a fragment");
     expect(lower(p, 29), 2, "lower a cut packet");
-    size_t len = packet_of(p, 6, 17, 8);
+}
+
+static void fresh_header(uint8_t *packet)
+{
+    if (packet[0] >> 4 != 4)
+        return;
+    put(packet + 10, 0);
+    put(packet + 10, 65535 - fold(weigh(packet, 4u * (packet[0] & 15))));
+}
+
+/* Lowers p, which has this verdict, from several lifetimes. The lifetime changes, the IPv4 header field stays fresh,
+ * the verdict and each other byte stay. The other edits refuse with the verdict, and the mender unless it is 8. */
+static void passed_over(size_t len, unsigned verdict)
+{
+    static const uint8_t lifetimes[] = {255, 3, 2, 1, 0};
+    size_t four = p[0] >> 4 == 4, place = four ? 8 : 7;
+    for (size_t i = 0; i < sizeof lifetimes; i++) {
+        p[place] = lifetimes[i];
+        fresh_header(p);
+        memcpy(q, p, len);
+        q[place] -= lifetimes[i] > 1;
+        fresh_header(q);
+        expect(judge(p, len), verdict, "judge what only the lifetime edit takes");
+        expect(lower(p, len), lifetimes[i] > 1 ? 0 : 11, "lower it");
+        check(memcmp(p, q, len) == 0, "its bytes");
+        expect(judge(p, len), verdict, "its verdict");
+        expect(call(ADDRESS, p, len, 1, udp, four ? 4 : 16), verdict, "a new destination");
+        expect(call(STRETCH, p, len, 0, udp, 1), verdict, "a stretch");
+        if (verdict != 8)
+            expect(mend(p, len), verdict, "mend it");
+        expect(lower(p, len), lifetimes[i] > 2 ? 0 : 11, "lower it again");
+        expect(judge(p, len), verdict, "its verdict again");
+    }
+}
+
+/* First, middle and last fragments of each protocol, with options and a tail or without, down to an empty message.
+ * The last ones are zeros, also where a whole packet has its field: they are data and stay. */
+static void fragments(void)
+{
+    static const unsigned flags[] = {0x2000, 0x60B9, 0x0001}, protocols[] = {1, 6, 17, 58, 47};
+    static const size_t messages[] = {0, 3, 8, 41};
+    for (size_t i = 0; i < 3 * 5 * 4; i++) {
+        size_t message = messages[i % 4], options = i % 3 * 20, tail = i % 2 * 5;
+        size_t len = packet_of(p, 4, protocols[i / 12], options + message);
+        p[0] = (uint8_t)(0x45 + options / 4);
+        put(p + 6, flags[i / 4 % 3]);
+        memset(p + 20 + options, 0, i / 4 % 3 == 2 ? message : 0);
+        memset(p + len, 0xEE, tail);
+        passed_over(len + tail, 6);
+    }
+    /* from 255 down to 1; and with a wrong header sum, which stays wrong by as much */
+    size_t len = packet_of(p, 4, 17, 24);
+    put(p + 6, 0x2000);
+    p[8] = 255;
+    fresh_header(p);
+    for (unsigned left = 255; left > 1; left--) {
+        expect(lower(p, len), 0, "lower a fragment");
+        expect(p[8], left - 1, "one less");
+        expect(fold(weigh(p, 20)), 0xFFFF, "its header sums right");
+    }
+    expect(lower(p, len), 11, "a fragment's lifetime of 1");
+    p[8] = 64;
+    fresh_header(p);
+    p[1] ^= 4;
+    expect(judge(p, len), 5, "judge a fragment with a wrong header sum");
+    expect(lower(p, len), 0, "lower it");
+    expect(judge(p, len), 5, "it stays wrong");
+    p[1] ^= 4;
+    expect(judge(p, len), 6, "and is right without the damage");
+}
+
+/* Protocols that aren't covered, IPv6's headers between among them; messages of a wrong shape; UDP over IPv6 with no
+ * sum. */
+static void unjudged(void)
+{
+    static const uint8_t other4[] = {0, 2, 41, 44, 47, 50, 58, 255};
+    static const uint8_t other6[] = {0, 1, 43, 44, 50, 51, 59, 60, 135, 255};
+    for (size_t i = 0; i < sizeof other4; i++)
+        passed_over(packet_of(p, 4, other4[i], 5 * i), 7);
+    for (size_t i = 0; i < sizeof other6; i++)
+        passed_over(packet_of(p, 6, other6[i], 5 * i), 7);
+    /* family, protocol, bytes of message, and where else in it a byte is another */
+    static const struct {
+        int family;
+        unsigned protocol;
+        size_t message, at;
+        uint8_t value;
+    } wrong[] = {{4, 1, 0, 0, 0}, {4, 1, 7, 0, 0}, {4, 6, 0, 0, 0}, {4, 6, 19, 0, 0},
+                 {4, 17, 0, 0, 0}, {4, 17, 7, 0, 0}, {6, 6, 0, 0, 0}, {6, 6, 19, 0, 0},
+                 {6, 17, 0, 0, 0}, {6, 17, 7, 0, 0}, {6, 58, 0, 0, 0}, {6, 58, 3, 0, 0},
+                 {4, 6, 27, 12, 0x40}, {4, 6, 27, 12, 0x70}, {6, 6, 27, 12, 0x00}, {6, 6, 27, 12, 0xF0},
+                 {4, 17, 12, 5, 11}, {4, 17, 12, 5, 13}, {6, 17, 12, 5, 11}, {6, 17, 12, 5, 13}};
+    for (size_t i = 0; i < sizeof wrong / sizeof *wrong; i++) {
+        size_t len = packet_of(p, wrong[i].family, wrong[i].protocol, wrong[i].message);
+        if (wrong[i].at != 0)
+            p[len - wrong[i].message + wrong[i].at] = wrong[i].value;
+        passed_over(len, 4);
+    }
+    size_t len = packet_of(p, 6, 17, 12);
     put(p + 46, 0);
-    p[7] = 0;
-    expect(lower(p, len), 8, "lower UDP over IPv6 with no sum");
+    passed_over(len, 8);
+}
+
+/* What the lifetime edit does look at: each header length with total lengths around it and around the bytes at hand,
+ * and IPv6's payload length. The answer is the first of 4, 4, 2 and 11, of a whole packet and of a fragment. */
+static void lengths(void)
+{
+    enum { BYTES = 64 };
+    for (size_t words = 0; words < 16; words++) {
+        size_t totals[] = {0, 19, 20, 4 * words - (words > 0), 4 * words, BYTES - 1, BYTES, BYTES + 1, 65535};
+        for (size_t i = 0; i < 9 * 2 * 3; i++) {
+            size_t total = totals[i / 6], lifetime = i % 3;
+            packet_of(p, 4, 17, BYTES - 20);
+            p[0] = (uint8_t)(0x40 + words);
+            put(p + 2, total);
+            put(p + 6, i / 3 % 2 ? 0x2001 : 0x4000);
+            p[8] = (uint8_t)lifetime;
+            unsigned verdict = words < 5 || total < 4 * words ? 4 : total > BYTES ? 2 : lifetime < 2 ? 11 : 0;
+            expect(lower(p, BYTES), verdict, "a header length and a total length");
+        }
+    }
+    for (size_t payload = 22; payload < 27; payload++)
+        for (uint8_t lifetime = 0; lifetime < 3; lifetime++) {
+            packet_of(p, 6, 44, BYTES - 40);
+            put(p + 4, payload);
+            p[7] = lifetime;
+            expect(lower(p, BYTES), payload > BYTES - 40 ? 2 : lifetime < 2 ? 11 : 0, "a payload length");
+        }
+    /* a fragment cut at every byte, and one whose long header is cut */
+    for (int family = 4; family <= 6; family += 2) {
+        size_t len = packet_of(p, family, 44, 16);
+        put(p + 6, family == 4 ? 0x2000 : 44 * 256);
+        for (size_t cut = 0; cut < len; cut++)
+            expect(lower(p, cut), 2, "a cut fragment");
+    }
+    packet_of(p, 4, 17, 64);
+    p[0] = 0x4F;
+    put(p + 6, 0x2000);
+    for (size_t cut = 20; cut < 84; cut++)
+        expect(lower(p, cut), 2, "a fragment with a cut header");
+    put(p + 2, 59);
+    for (size_t cut = 20; cut <= 84; cut++)
+        expect(lower(p, cut), 4, "a fragment whose header is longer than its total length");
 }
 
 static void address(void)
@@ -1011,6 +1148,10 @@ int main(void)
     group("mend");
     lifetime();
     group("lower_lifetime");
+    fragments();
+    unjudged();
+    lengths();
+    group("lower_lifetime of what others refuse");
     address();
     group("set_address");
     stretch();

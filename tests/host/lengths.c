@@ -86,6 +86,10 @@ static void packets(void)
         expect((unsigned)memcmp(p, udp, 30), 0, "what mending gives");
         expect(hifrostum_lower_lifetime(p, len), 0, "lower the lifetime");
         expect(p[8], 0x3F, "the lifetime");
+        p[6] |= 0x20;
+        expect(hifrostum_lower_lifetime(p, len), 0, "lower a fragment's lifetime");
+        expect(p[8], 0x3E, "the fragment's lifetime");
+        p[6] ^= 0x20;
         expect(hifrostum_set_address(p, len, 1, b, 4), 0, "a new destination");
         expect((unsigned)memcmp(p + 16, new, 4), 0, "the destination");
         expect(hifrostum_set_stretch(p, len, 1, b + 3, 1), 0, "a stretch");

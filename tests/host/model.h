@@ -1,6 +1,7 @@
-/* A model of the rules for packets whose shape is right: the rules paper's formulas over the covered block, which is
- * laid out whole, pseudo-header first, and summed byte by byte. It never asks the library. It counts how often it takes
- * the rare branches. */
+/* A model of the rules for packets whose IP header and declared length are right: the rules paper's formulas over the
+ * covered block, which is laid out whole, pseudo-header first, and summed byte by byte. A packet that is a fragment, of
+ * another protocol or of a wrong shape behind its header says so itself. It never asks the library. It counts how often
+ * it takes the rare branches. */
 #ifndef MODEL_H
 #define MODEL_H
 
@@ -30,6 +31,8 @@ enum branch {
     KEPT_SILENT,    /* a UDP field 0000 stays */
     BLANK_BEFORE,   /* ICMP is blank before an edit */
     BLANK_AFTER,    /* or would be after it */
+    LOWERED_FAULT,  /* a lifetime is lowered that stands before a message which can't be judged */
+    LOWERED_SILENT, /* or before UDP over IPv6 with the field 0000 */
     BRANCHES
 };
 static unsigned long met[KINDS][BRANCHES];
@@ -73,9 +76,11 @@ static unsigned equation3(unsigned field, unsigned old, unsigned new)
     return 65535 - fold(65535ul - field + 65535ul - old + new);
 }
 
-/* A packet whose shape is right. Its kind says where things stand. */
+/* A packet. Its kind says where things stand, and its fault is 6, 7 or 4 if it is a fragment, of another protocol, or
+ * of a wrong shape behind its header, and otherwise 0. */
 struct packet {
     const struct kind *kind;
+    unsigned fault;
     size_t header, len;
     uint8_t bytes[ROOM];
 };
@@ -83,6 +88,7 @@ struct packet {
 static void copy(struct packet *to, const struct packet *from)
 {
     to->kind = from->kind;
+    to->fault = from->fault;
     to->header = from->header;
     to->len = from->len;
     memcpy(to->bytes, from->bytes, from->len);
@@ -155,6 +161,8 @@ static unsigned judge(struct packet *p)
         meet(p, HEADER_ZERO, word(p->bytes + 10) == 0);
         meet(p, HEADER_FULL, word(p->bytes + 10) == 0xFFFF);
     }
+    if (p->fault != 0)
+        return p->fault;
     if (silent(p))
         return p->kind->family == 4 ? 1 : 8;
     meet(p, TOTAL_ZERO, message_total(p) == 0);
@@ -167,6 +175,8 @@ static unsigned judge(struct packet *p)
 
 static unsigned mend(struct packet *p)
 {
+    if (p->fault != 0)
+        return p->fault;
     if (p->kind->family == 4) {
         put(p->bytes + 10, 0);
         put(p->bytes + 10, 65535 - fold(total(p->bytes, p->header)));
@@ -207,13 +217,14 @@ static void renew_message(struct packet *p, size_t place, const uint8_t *old, co
     put(field_of(p), p->kind->protocol == UDP && answer == 0 ? 0xFFFF : answer);
 }
 
+/* It doesn't look behind the IP header. */
 static unsigned lower(struct packet *p)
 {
     uint8_t *lifetime = p->bytes + (p->kind->family == 4 ? 8 : 7), less = (uint8_t)(*lifetime - 1);
-    if (p->kind->family == 6 && silent(p))
-        return 8;
     if (*lifetime < 2)
         return 11;
+    meet(p, LOWERED_FAULT, p->fault != 0);
+    meet(p, LOWERED_SILENT, p->fault == 0 && p->kind->family == 6 && silent(p));
     renew_header(p, 8, lifetime, &less, 1);
     *lifetime = less;
     return 0;
@@ -223,6 +234,8 @@ static unsigned set_address(struct packet *p, unsigned side, const uint8_t *new)
 {
     size_t size = p->kind->family == 4 ? 4 : 16;
     uint8_t *at = p->bytes + (p->kind->family == 4 ? 12 : 8) + side * size;
+    if (p->fault != 0)
+        return p->fault;
     if (p->kind->family == 6 && silent(p))
         return 8;
     renew_header(p, 12, at, new, size);
@@ -246,6 +259,8 @@ static unsigned set_stretch(struct packet *p, size_t place, const uint8_t *new, 
 {
     static struct packet after;
     uint8_t *at = p->bytes + body_of(p) + place;
+    if (p->fault != 0)
+        return p->fault;
     if (p->kind->family == 6 && silent(p))
         return 8;
     if (place + len > p->len - body_of(p))
