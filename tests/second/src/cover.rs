@@ -335,8 +335,8 @@ fn kind_name((family, protocol): (u8, u8)) -> String {
 
 /// The rules an operation looks at.
 fn looked_at(operation: u8) -> impl Iterator<Item = &'static Rule> {
-    let looked_at = match operation {
-        JUDGE => |_: &Rule| true,
+    let looked_at: fn(&Rule) -> bool = match operation {
+        JUDGE => |_| true,
         MEND => mend::refused,
         LIFETIME => edit::refused_lifetime,
         _ => edit::refused,

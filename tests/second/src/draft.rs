@@ -10,7 +10,7 @@ pub const KINDS: [(u8, u8); 6] = [(4, ICMP), (4, TCP), (4, UDP), (6, TCP), (6, U
 
 /// Families with protocols that aren't in the table for them, IPv6's headers between among them.
 #[rustfmt::skip]
-pub const UNCOVERED: [(u8, u8); 18] = [
+pub const UNCOVERED_KINDS: [(u8, u8); 18] = [
     (4, 0), (4, 2), (4, 41), (4, 44), (4, 47), (4, 50), (4, ICMPV6), (4, 255),
     (6, 0), (6, ICMP), (6, 43), (6, 44), (6, 50), (6, 51), (6, 59), (6, 60), (6, 135), (6, 255),
 ];

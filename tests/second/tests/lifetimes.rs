@@ -3,7 +3,7 @@
 
 use second::answer::{Case, ADDRESS, GIVEN, JUDGE, LIFETIME};
 use second::cover::Cover;
-use second::draft::{declare, faults_of, spoil, write_word, Fault, Shape, KINDS, PASSED_OVER, UNCOVERED};
+use second::draft::{declare, faults_of, spoil, write_word, Fault, Shape, KINDS, PASSED_OVER, UNCOVERED_KINDS};
 use second::edit::{lower_lifetime, set_address, set_stretch};
 use second::judge::judge;
 use second::mend::{fresh_header_field, mend};
@@ -26,7 +26,8 @@ fn any_passed_over(random: &mut Random) -> Vec<u8> {
     packet
 }
 
-/// The last fragment of a UDP datagram, by hand: the rest of its header adds up to 6E19, and to 6D19 with a lifetime of 1.
+/// The last fragment of a UDP datagram, by hand: but for its field the header adds up to 6E19, and to 6D19 with a
+/// lifetime of 1.
 #[test]
 fn a_fragment_written_out() {
     let mut packet = vec![0x45, 0, 0, 0x18, 0x12, 0x34, 0, 0xB9, 2, 0x11, 0x91, 0xE6, 10, 0, 0, 1, 10, 0, 0, 2];
@@ -45,7 +46,7 @@ fn a_fragment_written_out() {
 #[test]
 fn ipv6_is_not_walked() {
     let mut random = Random(50);
-    for (_, next) in UNCOVERED.into_iter().filter(|kind| kind.0 == 6) {
+    for (_, next) in UNCOVERED_KINDS.into_iter().filter(|kind| kind.0 == 6) {
         let mut packet = Shape::plain((6, UDP), 20).good(&mut random);
         (packet[6], packet[7]) = (next, 2);
         // whatever the header between says of itself

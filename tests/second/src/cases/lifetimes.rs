@@ -4,7 +4,7 @@
 use super::Maker;
 use crate::answer::*;
 use crate::draft::{
-    balance_header, declare, faults_of, spoil, write_word, Fault, Shape, KINDS, PASSED_OVER, UNCOVERED,
+    balance_header, declare, faults_of, spoil, write_word, Fault, Shape, KINDS, PASSED_OVER, UNCOVERED_KINDS,
 };
 use crate::mend::{fresh_header_field, write_field};
 use crate::packet::{View, HEADER_FIELD, ICMP, ICMPV6, TABLE, TCP, UDP};
@@ -54,8 +54,8 @@ impl Maker {
         }
     }
 
-    /// Two lifetime edits down to 1 and one that is refused there, with calls between that refuse the packet; the mender
-    /// takes it if it has no other fault than 0000 in UDP over IPv6.
+    /// Two lifetime edits down to 1 and one that is refused there, with calls between that refuse the packet; the
+    /// mender takes it if it has no other fault than 0000 in UDP over IPv6.
     fn in_turn(&mut self, packet: &[u8]) {
         let (packet, length) = (aged(packet, 3), View::new(packet).address_length());
         let (address, new) = (self.random.contents(length), self.random.contents(1));
@@ -142,7 +142,7 @@ impl Maker {
             packet[place] = protocol;
             packet
         };
-        UNCOVERED.into_iter().map(packet).collect()
+        UNCOVERED_KINDS.into_iter().map(packet).collect()
     }
 
     /// Messages under their fixed header, TCP offsets below 5 words and just past the message, UDP lengths that are one
@@ -259,8 +259,8 @@ impl Maker {
         }
     }
 
-    /// Any packet with a fault that only the lifetime edit passes over, perhaps with others too: lifetime edits, and any
-    /// others between.
+    /// Any packet with a fault that only the lifetime edit passes over, perhaps with others too: lifetime edits, and
+    /// any others between.
     pub fn any_lifetimes(&mut self) {
         let fault = self.random.pick(&PASSED_OVER);
         let kinds: Vec<(u8, u8)> = KINDS.into_iter().filter(|kind| faults_of(*kind).contains(&fault)).collect();

@@ -2,7 +2,7 @@
 // fragments, protocols that aren't covered, and messages of any shape, which the other edits refuse.
 
 use super::*;
-use crate::draft::UNCOVERED as UNCOVERED_KINDS;
+use crate::draft::UNCOVERED_KINDS;
 
 /// The lifetimes that are tried in every kind of packet.
 const LIFETIMES: [&str; 4] = ["0", "1", "2", "255"];
@@ -255,8 +255,8 @@ fn shapes(family: u8) -> Vec<String> {
     all
 }
 
-/// On packets that the others refuse: they are refused between two lifetime edits, the judge says the same all the time,
-/// and the lifetime goes down to 1.
+/// On packets that the other edits refuse: they do so between two lifetime edits, the judge says the same all the
+/// time, and the lifetime goes down to 1.
 fn wanted_sequences() -> Vec<String> {
     let mut wanted = Vec::new();
     for verdict in [SHAPE, FRAGMENT, UNCOVERED, MISSING] {
