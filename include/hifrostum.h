@@ -11,11 +11,16 @@
  * which is neither judged nor changed.
  *
  * Refusals. Every verdict but good (0) and unsummed (1) is a refusal, and a refused call writes to
- * no buffer. Where several would apply, the first in the order given is the answer. "The shape's
- * refusals" below are, in this order: no bytes 2; version 3; under 20 (IPv4) or 40 (IPv6) bytes 2;
- * IPv4 header length under 5 words 4; IPv4 total length below the header length 4; fewer bytes than
- * declared 2; fragment 6; protocol 7; message shorter than its fixed header 4; TCP or UDP length 4.
- * The shape's refusals look at no sum.
+ * no buffer. Where several would apply, the first in the order given is the answer. Two lists have
+ * names below, and look at no sum. "The outer refusals" are from the IP header and the declared
+ * length alone, in this order: no bytes 2; version 3; under 20 (IPv4) or 40 (IPv6) bytes 2; IPv4
+ * header length under 5 words 4; IPv4 total length below the header length 4; fewer bytes than
+ * declared 2. "The shape's refusals" are the outer ones, and then: fragment 6; protocol 7; message
+ * shorter than its fixed header 4; TCP or UDP length 4.
+ *
+ * Fragments. A message's field stands in its first fragment and covers all of them, so nobody judges
+ * it on the way: judge says 6 of an IPv4 fragment once its header's sum has passed, and 7 of an IPv6
+ * one, whose next header is 44. Of the edits and the mender only the lifetime edit takes them.
  */
 #ifndef HIFROSTUM_H
 #define HIFROSTUM_H
@@ -29,7 +34,7 @@ extern "C" {
 
 /* The version of this surface. It goes up by one whenever a function, a constant, or what an answer
  * means is added, changed or taken away; CHANGELOG.md says what a host's author must do then. */
-#define HIFROSTUM_SURFACE_VERSION 3
+#define HIFROSTUM_SURFACE_VERSION 4
 
 /* What a call answers. */
 enum hifrostum_verdict {
@@ -62,15 +67,20 @@ uint8_t hifrostum_judge(const uint8_t *packet, size_t len);
  * Refusals: the shape's. */
 uint8_t hifrostum_mend(uint8_t *packet, size_t len);
 
-/* Lowers the lifetime (time to live, hop limit) by one and updates the IPv4 header field.
+/* Lowers the lifetime (time to live, hop limit) by one and updates the IPv4 header field. The message
+ * is not looked at: a fragment, an unknown protocol and a message of a wrong shape don't stop it, and
+ * the verdict stays what it was for these too. So judge first, and send on by the verdict.
  * A damaged packet stays damaged: an edit updates and never mends. In a good one each field that it
  * updates becomes the one that hifrostum_mend would write. This holds of all three edits.
- * Refusals: the shape's, then 8; 11 if the lifetime is 0 or 1. */
+ * Refusals: the outer ones; 11 if the lifetime is 0 or 1. */
 uint8_t hifrostum_lower_lifetime(uint8_t *packet, size_t len);
 
 /* Writes a new source (side 0) or destination (side 1) address and updates the fields that cover
  * it: the IPv4 header's, and the message's unless it is ICMP over IPv4. A UDP field 0000 over IPv4
  * stays. The address is read only.
+ * A fragment is refused (6, or 7 over IPv6), since the message's field, which covers the address,
+ * stands in the first fragment alone. So a relay that changes addresses sends a fragment on with
+ * those that it came with, its lifetime lowered, or drops it.
  * Refusals: the shape's, then 8; 10 for another side, or unless the address has 4 bytes (IPv4) or
  * 16 (IPv6). */
 uint8_t hifrostum_set_address(uint8_t *packet, size_t len, uint32_t side,

@@ -194,15 +194,32 @@ pub fn mend(packet: &mut [u8]) -> Verdict {
     Verdict::answered(unsafe { c::hifrostum_mend(packet.as_mut_ptr(), packet.len()) })
 }
 
-/// Lowers the lifetime by one and updates the IPv4 header field; `Spent` if it is 0 or 1.
+/// Lowers the lifetime by one and updates the IPv4 header field; `Spent` if it is 0 or 1. Otherwise it
+/// refuses only for the IP header and the declared length, with `Cut`, `Version` and `Shape`: the message
+/// is not looked at, and the verdict stays what it was. So [`judge`] first, and send on by the verdict.
+///
 /// A damaged packet stays damaged: an edit updates and never mends. In a good packet each field that an
 /// edit updates is the one that [`mend`] would write. Both hold of all three edits.
+///
+/// Fragments get through. The verdict on one is `Fragment` once the IPv4 header's sum has passed, and
+/// over IPv6, where 44 stands in byte 6, `Uncovered`; nobody on the way judges its message's sum.
+///
+/// ```
+/// use hifrostum::{judge, lower_lifetime, Verdict};
+/// let mut last = [
+///     0x45, 0, 0, 24, 0, 9, 0, 1, 64, 17, 0x66, 0xC9, 10, 0, 0, 1, 10, 0, 0, 2, 0x48, 0x69, 0x21, 0x0A,
+/// ];
+/// assert_eq!(judge(&last), Verdict::Fragment);
+/// assert_eq!(lower_lifetime(&mut last), Verdict::Good);
+/// assert_eq!((last[8], judge(&last)), (63, Verdict::Fragment));
+/// ```
 pub fn lower_lifetime(packet: &mut [u8]) -> Verdict {
     Verdict::answered(unsafe { c::hifrostum_lower_lifetime(packet.as_mut_ptr(), packet.len()) })
 }
 
 /// Writes a new address and updates the fields that cover it; `Place` unless it has 4 bytes (IPv4) or
-/// 16 (IPv6).
+/// 16 (IPv6). A fragment is refused, since the message's field stands in the first one alone: a relay
+/// sends it on with the addresses that it came with, its lifetime lowered, or drops it.
 pub fn set_address(packet: &mut [u8], side: Side, address: &[u8]) -> Verdict {
     let (to, len) = (packet.as_mut_ptr(), packet.len());
     Verdict::answered(unsafe {

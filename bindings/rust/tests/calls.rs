@@ -105,6 +105,73 @@ fn edits() {
     assert_eq!(lower_lifetime(&mut packet), Verdict::Spent);
 }
 
+/// What the message is doesn't stop a lifetime, and the verdict stays; no other edit takes such packets.
+#[test]
+fn fragments_get_through() {
+    let header = |packet: &mut [u8]| {
+        packet[10..12].fill(0);
+        let Field(fresh) = field(&packet[..20]);
+        packet[10..12].copy_from_slice(&fresh.to_be_bytes());
+    };
+    let mut six = [0; 48];
+    (six[0], six[5], six[6], six[7]) = (0x60, 8, 44, 64);
+    let mut missing = six;
+    (missing[6], missing[45]) = (17, 8);
+    let mut packets = vec![
+        (Verdict::Uncovered, six.to_vec()),
+        (Verdict::Missing, missing.to_vec()),
+    ];
+    for (at, value, verdict) in [
+        (6, 0x20, Verdict::Fragment), // more follow
+        (7, 2, Verdict::Fragment),    // at byte 16
+        (9, 99, Verdict::Uncovered),
+        (25, 9, Verdict::Shape), // UDP's length
+    ] {
+        let mut packet = UDP;
+        packet[at] = value;
+        header(&mut packet);
+        packets.push((verdict, packet.to_vec()));
+    }
+    for (verdict, mut packet) in packets {
+        assert_eq!(judge(&packet), verdict);
+        let mut want = packet.clone();
+        if want[0] == 0x45 {
+            want[8] -= 1;
+            header(&mut want);
+        } else {
+            want[7] -= 1;
+        }
+        assert_eq!(set_address(&mut packet, Side::Source, &[0; 4]), verdict);
+        assert_eq!(set_stretch(&mut packet, 0, b""), verdict);
+        assert_eq!(lower_lifetime(&mut packet), Verdict::Good);
+        assert_eq!(packet, want);
+        assert_eq!(judge(&packet), verdict);
+    }
+}
+
+/// What is left to refuse a lifetime, in its order: the IP header, the declared length, a spent lifetime.
+#[test]
+fn refused_lifetimes() {
+    let refused = |at: usize, value: u8, len: usize| {
+        let mut packet = UDP;
+        (packet[7], packet[8]) = (2, 1); // a fragment, spent
+        packet[at] = value;
+        let was = packet;
+        let verdict = lower_lifetime(&mut packet[..len]);
+        assert_eq!(packet, was);
+        verdict
+    };
+    assert_eq!(refused(0, 0x45, 0), Verdict::Cut);
+    assert_eq!(refused(0, 0x55, 1), Verdict::Version);
+    assert_eq!(refused(0, 0x44, 19), Verdict::Cut);
+    assert_eq!(refused(0, 0x65, 30), Verdict::Cut);
+    assert_eq!(refused(0, 0x44, 29), Verdict::Shape);
+    assert_eq!(refused(3, 19, 29), Verdict::Shape);
+    assert_eq!(refused(3, 30, 29), Verdict::Cut);
+    assert_eq!(refused(8, 1, 30), Verdict::Spent);
+    assert_eq!(refused(8, 0, 30), Verdict::Spent);
+}
+
 /// A field at FFFF where the fresh one is 0000: an edit leaves what the mender writes.
 #[test]
 fn no_negative_zero() {
