@@ -1,7 +1,8 @@
 /* A relay: a capture of IP packets on standard input, the packets that pass on standard output.
  *
- * Each packet is judged, loses one of its lifetime, and gets a new destination address. A packet that
- * the library refuses is dropped and counted: a damaged one is never repaired.
+ * Each packet is judged, loses one of its lifetime, and gets a new destination address; a fragment
+ * keeps the destination that it came with. A packet that the library refuses is dropped and counted:
+ * a damaged one is never repaired.
  *
  *     cc hut.c -I../../include libhifrostum.a -o hut
  *     ./hut 192.168.0.199 <in >out
@@ -13,7 +14,7 @@
 
 #include "hifrostum.h"
 
-enum { LONGEST = 2048, VERDICTS = HIFROSTUM_ROOM + 1 };
+enum { LONGEST = 2048, VERDICTS = HIFROSTUM_ROOM + 1, FRAGMENT_HEADER = 44 };
 
 static const char *const names[VERDICTS] = {
     "good", "unsummed", "cut", "version", "shape", "header sum", "fragment", "uncovered", "missing",
@@ -24,14 +25,20 @@ static const char usage[] =
     "usage: hut ADDRESS <in >out\n"
     "Relays a capture of IP packets: judges each, lowers its lifetime by one and sets its\n"
     "destination to ADDRESS (IPv4 or IPv6). A packet of the other family keeps its destination\n"
-    "and only has its lifetime lowered. A packet that is refused is dropped, and counted on\n"
-    "standard error by the reason. Exit status: 0 relayed, 1 damaged input or a failed read or\n"
-    "write, 2 wrong usage.\n";
+    "and only has its lifetime lowered. So does a fragment, of which the IP header alone is\n"
+    "judged: whether the sum of its message is right shows where all fragments are, not here.\n"
+    "A packet that is refused is dropped, and counted on standard error by the reason. Exit\n"
+    "status: 0 relayed, 1 damaged input or a failed read or write, 2 wrong usage.\n";
 
 /* The new destination: 4 bytes or 16. */
 struct address {
     uint8_t bytes[16];
     size_t len;
+};
+
+/* Packets by what relay answered, and how many of those sent on were fragments. */
+struct counts {
+    unsigned long verdicts[VERDICTS], fragments;
 };
 
 /* Reads an address as people write it. Answers 0 if it is none. */
@@ -41,19 +48,29 @@ static int read_address(const char *text, struct address *to)
     return to->len == 4 || inet_pton(AF_INET6, text, to->bytes) == 1;
 }
 
+/* Whether a packet with this verdict is a fragment. Of IPv4 the judge says so, once the header's sum
+ * has passed. Over IPv6, which has no such sum, it doesn't look behind a fragment header yet and says
+ * uncovered: then the whole IP header is there, and the next header is its byte 6. */
+static int is_fragment(const uint8_t *packet, uint8_t verdict)
+{
+    if (verdict == HIFROSTUM_UNCOVERED)
+        return packet[0] >> 4 == 6 && packet[6] == FRAGMENT_HEADER;
+    return verdict == HIFROSTUM_FRAGMENT;
+}
+
 /* Makes one packet ready to be sent on, in place: the verdict, a refusal where it is not to be sent.
- * Judge first. The edits update sums and don't look whether these were right. */
-static uint8_t relay(uint8_t *packet, size_t len, const struct address *to)
+ * Judge first. The edits update sums and don't look whether these were right.
+ * A fragment keeps its destination: the field that covers it stands in the first fragment alone. */
+static uint8_t relay(uint8_t *packet, size_t len, const struct address *to, int *fragment)
 {
     uint8_t verdict = hifrostum_judge(packet, len);
-    if (verdict > HIFROSTUM_UNSUMMED)
+    *fragment = is_fragment(packet, verdict);
+    if (verdict > HIFROSTUM_UNSUMMED && !*fragment)
         return verdict;
     verdict = hifrostum_lower_lifetime(packet, len);
-    if (verdict != HIFROSTUM_GOOD)
+    size_t address_len = packet[0] >> 4 == 4 ? 4 : 16;
+    if (verdict != HIFROSTUM_GOOD || *fragment || to->len != address_len)
         return verdict;
-    size_t address_len = (packet[0] >> 4) == 4 ? 4 : 16;
-    if (to->len != address_len)
-        return HIFROSTUM_GOOD;
     return hifrostum_set_address(packet, len, 1, to->bytes, to->len);
 }
 
@@ -89,27 +106,29 @@ static int write_record(const uint8_t *packet, size_t len)
     return put(head, 2) && put(packet, len) && fflush(stdout) == 0;
 }
 
-/* Relays the records to the end of input, counting verdicts. Answers 0 if it stopped early. */
-static int relay_records(const struct address *to, unsigned long counts[VERDICTS])
+/* Relays the records to the end of input, counting. Answers 0 if it stopped early. */
+static int relay_records(const struct address *to, struct counts *counts)
 {
     uint8_t packet[LONGEST];
     size_t len;
     const char *damage;
+    int fragment;
     for (unsigned long record = 1; next_record(packet, &len, &damage); record++) {
         if (damage && !ferror(stdin))
             fprintf(stderr, "hut: damaged capture: record %lu: %s\n", record, damage);
         if (damage)
             return 0;
-        uint8_t verdict = relay(packet, len, to);
+        uint8_t verdict = relay(packet, len, to, &fragment);
         if (verdict == HIFROSTUM_GOOD && !write_record(packet, len))
             return 0;
-        counts[verdict]++;
+        counts->verdicts[verdict]++;
+        counts->fragments += verdict == HIFROSTUM_GOOD && fragment;
     }
     return !ferror(stdin);
 }
 
 /* Relays the whole capture. Answers 0 if it stopped early. */
-static int relay_capture(const struct address *to, unsigned long counts[VERDICTS])
+static int relay_capture(const struct address *to, struct counts *counts)
 {
     static const uint8_t begin[5] = {'G', 'L', 'R', 0, 1};
     uint8_t head[5];
@@ -125,6 +144,21 @@ static int relay_capture(const struct address *to, unsigned long counts[VERDICTS
     return 0;
 }
 
+/* Says on standard error what was done. */
+static void report(const struct counts *counts)
+{
+    unsigned long relayed = counts->verdicts[HIFROSTUM_GOOD], dropped = 0;
+    for (int verdict = 1; verdict < VERDICTS; verdict++) {
+        if (counts->verdicts[verdict] > 0)
+            fprintf(stderr, "hut: dropped %lu: %s\n", counts->verdicts[verdict], names[verdict]);
+        dropped += counts->verdicts[verdict];
+    }
+    if (counts->fragments > 0)
+        fprintf(stderr, "hut: relayed %lu: fragments, destination kept\n", counts->fragments);
+    fprintf(stderr, "hut: records %lu relayed %lu dropped %lu\n",
+            relayed + dropped, relayed, dropped);
+}
+
 int main(int argc, char **argv)
 {
     struct address to;
@@ -135,20 +169,13 @@ int main(int argc, char **argv)
         return 2;
     }
 
-    unsigned long counts[VERDICTS] = {0}, dropped = 0;
-    int done = relay_capture(&to, counts);
+    struct counts counts = {{0}, 0};
+    int done = relay_capture(&to, &counts);
     const char *reason = strerror(errno);
     if (ferror(stdin))
         fprintf(stderr, "hut: reading failed: %s\n", reason);
     if (ferror(stdout))
         fprintf(stderr, "hut: writing failed: %s\n", reason);
-
-    for (int verdict = 1; verdict < VERDICTS; verdict++) {
-        if (counts[verdict] > 0)
-            fprintf(stderr, "hut: dropped %lu: %s\n", counts[verdict], names[verdict]);
-        dropped += counts[verdict];
-    }
-    fprintf(stderr, "hut: records %lu relayed %lu dropped %lu\n",
-            counts[HIFROSTUM_GOOD] + dropped, counts[HIFROSTUM_GOOD], dropped);
+    report(&counts);
     return done ? 0 : 1;
 }

@@ -79,6 +79,76 @@ records 4 good 3 unsummed 1 refused 0' "$("$x86" run "$judge_capture" <"$dir/out
 bytes "$(echo "$echo4" | sed 's/40 01 66DF/3F 01 67DF/')" >"$dir/want"
 same 'IPv6: an IPv4 packet' "$(od -An -tx1 -v "$dir/want")" "$(tail -c +8 "$dir/out" | head -c 28 | od -An -tx1 -v)"
 
+# Fragments: a datagram of 29 bytes in three, over each family. They go on with their destination, whichever the hut
+# sets, and the verdict on each stays: 6 over IPv4; over IPv6 7, as the judge doesn't look behind their header.
+from4='C0A80001 C0A800C7' begin='1388 1389 001D' text='616C746974756465' more='2031323030206D65' rest='7472657321'
+first4="4500 0024 0007 2000 40 11 D8A9 $from4 $begin BD0C $text"
+middle4="4500 001C 0007 2002 40 11 D8AF $from4 $more"
+last4="4500 0019 0007 0003 40 11 F8B1 $from4 $rest"
+first6="60000000 0018 2C 40 $one $one 1100 0001 00000007 $begin 3F24 $text"
+middle6="60000000 0010 2C 40 $one $one 1100 0011 00000007 $more"
+last6="60000000 000D 2C 40 $one $one 1100 0018 00000007 $rest"
+verdicts='record 1 verdict 6
+record 2 verdict 6
+record 3 verdict 6
+record 4 verdict 7
+record 5 verdict 7
+record 6 verdict 7
+record 7 verdict 6
+records 7 good 0 unsummed 0 refused 7'
+# the last has a tail, which stays
+bytes "$head" 0024 "$first4" 001C "$middle4" 0019 "$last4" 0040 "$first6" 0038 "$middle6" 0035 "$last6" \
+    001B "$last4" AA55 >"$dir/in"
+bytes "$head" \
+    0024 "$(echo "$first4" | sed 's/40 11 D8A9/3F 11 D9A9/')" \
+    001C "$(echo "$middle4" | sed 's/40 11 D8AF/3F 11 D9AF/')" \
+    0019 "$(echo "$last4" | sed 's/40 11 F8B1/3F 11 F9B1/')" \
+    0040 "$(echo "$first6" | sed 's/2C 40/2C 3F/')" \
+    0038 "$(echo "$middle6" | sed 's/2C 40/2C 3F/')" \
+    0035 "$(echo "$last6" | sed 's/2C 40/2C 3F/')" \
+    001B "$(echo "$last4" | sed 's/40 11 F8B1/3F 11 F9B1/')" AA55 >"$dir/want"
+same 'fragments: judged before' "$verdicts" "$("$x86" run "$judge_capture" <"$dir/in")"
+for to in 10.0.0.9 2001:db8::9; do
+    relay $to
+    same "fragments, $to: exit status" 0 "$status"
+    same "fragments, $to: what it says" 'hut: relayed 7: fragments, destination kept
+hut: records 7 relayed 7 dropped 0' "$(cat "$dir/said")"
+    same "fragments, $to: what it writes" "$(od -An -tx1 -v "$dir/want")" "$(od -An -tx1 -v "$dir/out")"
+    same "fragments, $to: judged" "$verdicts" "$("$x86" run "$judge_capture" <"$dir/out")"
+done
+
+# What drops a fragment: bytes that are missing, lengths of the IP header, its sum, a spent lifetime. And what is none:
+# protocol 44 over IPv4, and over IPv6 another header, also with a fragment header behind it. A whole packet among them
+# goes where the others go.
+bytes "$head" \
+    0018 "4500 0019 0007 0003 40 11 F8B1 $from4 74726573" \
+    0034 "60000000 000D 2C 40 $one $one 1100 0018 00000007 74726573" \
+    0019 "$(echo "$last4" | sed 's/0019/0013/')" \
+    001C "$(echo "$middle4" | sed 's/4500/4400/')" \
+    0024 "$(echo "$first4" | sed 's/D8A9/D8A8/')" \
+    001C "$(echo "$middle4" | sed 's/00C7/00C6/')" \
+    0024 "$(echo "$first4" | sed 's/40 11 D8A9/01 11 17AA/')" \
+    0019 "$(echo "$last4" | sed 's/40 11 F8B1/00 11 38B2/')" \
+    0040 "$(echo "$first6" | sed 's/2C 40/2C 01/')" \
+    0035 "$(echo "$last6" | sed 's/2C 40/2C 00/')" \
+    0019 "$(echo "$last4" | sed 's/0003 40 11 F8B1/0000 40 2C F899/')" \
+    0038 "$(echo "$middle6" | sed 's/2C 40/2B 40/')" \
+    0040 "60000000 0018 00 40 $one $one 2C00 0104 00000000 1100 0011 00000007 $more" \
+    0024 "$first4" 001C "$echo4" >"$dir/in"
+relay 10.0.0.9
+same 'dropped fragments: exit status' 0 "$status"
+same 'dropped fragments: what it says' 'hut: dropped 2: cut
+hut: dropped 2: shape
+hut: dropped 2: header sum
+hut: dropped 3: uncovered
+hut: dropped 4: spent
+hut: relayed 1: fragments, destination kept
+hut: records 15 relayed 2 dropped 13' "$(cat "$dir/said")"
+bytes "$head" \
+    0024 "$(echo "$first4" | sed 's/40 11 D8A9/3F 11 D9A9/')" \
+    001C "$(echo "$echo4" | sed 's/40 01 66DF/3F 01 67D8/; s/0A000002/0A000009/')" >"$dir/want"
+same 'dropped fragments: what it writes' "$(od -An -tx1 -v "$dir/want")" "$(od -An -tx1 -v "$dir/out")"
+
 # Damaged input: said in words, exit status 1, and what was relayed before is a whole capture.
 damaged() { # WORDS HEX..
     words=$1
@@ -121,6 +191,7 @@ relay 10.0.0.256
 same 'no such address' 2 "$status"
 relay --help
 same 'help' 0 "$status"
+same 'help: fragments' 1 "$(grep -c 'So does a fragment, of which the IP header alone is' "$dir/out")"
 status=0
 "$x86" run "$hut" 10.0.0.9 <"$dir" >"$dir/out" 2>"$dir/said" || status=$?
 same 'a directory' '1 hut: reading failed: Is a directory' "$status $(head -n 1 "$dir/said")"
