@@ -1,4 +1,4 @@
-/* Measures the library beside the ways of ways.c and same.c, on UDP packets.
+/* Measures the library beside the ways of ways.c and same.c, on UDP packets, and a lifetime also on fragments.
  *
  *     bench calls        calls each once, between begin() and end(), and prints a line for each call:
  *                        what an emulator's trace is counted by
@@ -52,19 +52,23 @@ enum { WAYS = sizeof ways / sizeof *ways };
 static const size_t lengths[] = {40, 64, 128, 576, 1500}, lifetimes[] = {64, 128, 576, 1500, 9000, 60000};
 static const uint8_t new[16] = {0xFD, 0x12, 0x34, 0x56, 0x78, 0x9A, 0xBC, 0xDE, 0xF0, 1, 2, 3, 4, 5, 6, 7};
 
-/* Calls that are looked at more closely. A sum has no family. */
+/* What a call is given; a sum takes any bytes. A fragment is one from the middle of a datagram. */
+enum packet { IPV4, IPV6, FRAGMENT4, FRAGMENT6, PACKETS };
+static const char *const packets[PACKETS] = {"IPv4", "IPv6", "IPv4 fragment", "IPv6 fragment"};
+
+/* Calls that are looked at more closely. */
 struct row {
     enum operation op;
-    int family;
+    enum packet packet;
     size_t len;
 };
 static const struct row ten[] = {
-    {JUDGE, 4, 40}, {JUDGE, 4, 64}, {JUDGE, 4, 1500}, {JUDGE, 6, 64},   {MEND, 4, 64},
-    {MEND, 6, 64},  {LOWER, 4, 64}, {ADDRESS, 4, 64}, {STRETCH, 4, 64}, {FIELD, 4, 64},
+    {JUDGE, IPV4, 40}, {JUDGE, IPV4, 64}, {JUDGE, IPV4, 1500}, {JUDGE, IPV6, 64},   {MEND, IPV4, 64},
+    {MEND, IPV6, 64},  {LOWER, IPV4, 64}, {ADDRESS, IPV4, 64}, {STRETCH, IPV4, 64}, {FIELD, IPV4, 64},
 };
 static const struct row nine[] = {
-    {JUDGE, 4, 64}, {JUDGE, 4, 1500}, {JUDGE, 6, 64},   {MEND, 4, 64},    {MEND, 4, 1500},
-    {LOWER, 4, 64}, {ADDRESS, 4, 64}, {STRETCH, 4, 64}, {FIELD, 4, 1500},
+    {JUDGE, IPV4, 64}, {JUDGE, IPV4, 1500}, {JUDGE, IPV6, 64},   {MEND, IPV4, 64},    {MEND, IPV4, 1500},
+    {LOWER, IPV4, 64}, {ADDRESS, IPV4, 64}, {STRETCH, IPV4, 64}, {FIELD, IPV4, 1500},
 };
 
 /* The pieces of a chain: a header of 20 bytes, and the rest 63 bytes at a time, so that odd pieces begin at even and
@@ -121,36 +125,55 @@ static void put(uint8_t *at, size_t value)
     at[1] = (uint8_t)value;
 }
 
-/* Builds a good packet, whose lifetime lasts for a batch. */
-static void build(uint8_t *packet, int family, size_t len)
+/* Makes a fragment of a good packet. The judge says 6 of it where the header's sum is still right, and 7 over IPv6. */
+static int split(uint8_t *packet, size_t len, int four)
 {
-    size_t start = family == 4 ? 20 : 40;
+    enum { MIDDLE = 0x2000 + 64 / 8 };
+    if (four) {
+        uint16_t field = (uint16_t)(packet[10] << 8 | packet[11]);
+        put(packet + 10, hifrostum_update(field, 0x4000, MIDDLE));
+        put(packet + 6, MIDDLE);
+    } else {
+        packet[6] = 44;
+    }
+    return hifrostum_judge(packet, len) == (four ? HIFROSTUM_FRAGMENT : HIFROSTUM_UNCOVERED);
+}
+
+/* Builds a good packet, whose lifetime lasts for a batch, or a fragment with a right header. */
+static void build(uint8_t *packet, enum packet kind, size_t len)
+{
+    int four = kind == IPV4 || kind == FRAGMENT4;
+    size_t start = four ? 20 : 40;
     for (size_t i = 0; i < len; i++)
         packet[i] = (uint8_t)(i * 73 + 5);
-    packet[0] = (uint8_t)(16 * family + 5);
-    put(packet + (family == 4 ? 2 : 4), family == 4 ? len : len - 40);
-    if (family == 4)
+    packet[0] = four ? 0x45 : 0x65;
+    put(packet + (four ? 2 : 4), four ? len : len - 40);
+    if (four)
         put(packet + 6, 0x4000);
-    packet[family == 4 ? 8 : 7] = 255;
-    packet[family == 4 ? 9 : 6] = 17;
+    packet[four ? 8 : 7] = 255;
+    packet[four ? 9 : 6] = 17;
     put(packet + start + 4, len - start);
     put(packet + start + 6, 1);
-    if (hifrostum_mend(packet, len) != 0 || hifrostum_judge(packet, len) != 0) {
+    if (hifrostum_mend(packet, len) != 0 || hifrostum_judge(packet, len) != 0 ||
+        (kind >= FRAGMENT4 && !split(packet, len, four))) {
         fprintf(stderr, "bench: no good packet of %zu bytes\n", len);
         exit(1);
     }
 }
 
-/* Stops unless a way answers and writes what the library does. */
-static void compare(const struct way *way, enum operation op, const uint8_t *packet, size_t len)
+/* Stops unless a way answers and writes what the library does. Answers 0 if that refuses, as a library of before does a
+ * fragment: then there is nothing to measure. */
+static int compare(const struct way *way, enum operation op, const uint8_t *packet, size_t len)
 {
     static uint8_t want[LONGEST], got[LONGEST];
     memcpy(want, packet, len);
     memcpy(got, packet, len);
-    if (call(ours, op, want, len) != call(way, op, got, len) || memcmp(want, got, len) != 0) {
+    unsigned answer = call(ours, op, want, len);
+    if (answer != call(way, op, got, len) || memcmp(want, got, len) != 0) {
         fprintf(stderr, "bench: %s: %s differs at %zu bytes\n", names[op], way->name, len);
         exit(1);
     }
+    return op <= CHAIN || answer == 0;
 }
 
 /* Calls a way once, to be counted. */
@@ -174,7 +197,7 @@ static double now(void)
 /* Prints what is measured. */
 static void print_row(struct row r, size_t w)
 {
-    printf("%s | %s %zu | %s%s", names[r.op], r.op <= CHAIN ? "bytes" : r.family == 4 ? "IPv4" : "IPv6", r.len,
+    printf("%s | %s %zu | %s%s", names[r.op], r.op <= CHAIN ? "bytes" : packets[r.packet], r.len,
            ways[w].by, (*ways[w].way)->name);
 }
 
@@ -212,12 +235,11 @@ static void timed(struct row r, const uint8_t *packet)
 static void measure(int calls, struct row r, size_t first)
 {
     static uint8_t packet[LONGEST];
-    build(packet, r.family, r.len);
+    build(packet, r.packet, r.len);
     cut(r.len);
     for (size_t w = 0; w < first; w++) {
-        if (!has(*ways[w].way, r.op))
+        if (!has(*ways[w].way, r.op) || !compare(*ways[w].way, r.op, packet, r.len))
             continue;
-        compare(*ways[w].way, r.op, packet, r.len);
         if (calls) {
             counted(*ways[w].way, r.op, packet, r.len);
             print_row(r, w);
@@ -228,14 +250,23 @@ static void measure(int calls, struct row r, size_t first)
         timed(r, packet);
 }
 
+/* A sum has no family, UDP over IPv6 has more than 40 bytes, and of fragments only a lifetime is edited. */
+static int possible(struct row r)
+{
+    if (r.packet == IPV4)
+        return 1;
+    return r.op > CHAIN && (r.packet == FRAGMENT4 || r.len > 40) && (r.packet == IPV6 || r.op == LOWER);
+}
+
 static void measure_all(int calls)
 {
     for (enum operation op = 0; op < OPERATIONS; op++)
-        for (int family = 4; family <= 6; family += 2)
-            for (size_t i = 0; i < sizeof lengths / sizeof *lengths; i++)
-                /* a sum has no family, and 40 bytes hold no UDP over IPv6 */
-                if (family == 4 || (op > CHAIN && lengths[i] != 40))
-                    measure(calls, (struct row){op, family, lengths[i]}, WAYS);
+        for (enum packet packet = 0; packet < PACKETS; packet++)
+            for (size_t i = 0; i < sizeof lengths / sizeof *lengths; i++) {
+                struct row r = {op, packet, lengths[i]};
+                if (possible(r))
+                    measure(calls, r, WAYS);
+            }
 }
 
 #ifndef ONLY_OURS
@@ -259,7 +290,7 @@ int main(int argc, char **argv)
         measure_all(what[0] == 'c');
     else if (strcmp(what, "lengths") == 0)
         for (size_t i = 0; i < sizeof lifetimes / sizeof *lifetimes; i++)
-            measure(1, (struct row){LOWER, 4, lifetimes[i]}, 1);
+            measure(1, (struct row){LOWER, IPV4, lifetimes[i]}, 1);
     else if (strcmp(what, "ten") == 0)
         for (size_t i = 0; i < sizeof ten / sizeof *ten; i++)
             measure(1, ten[i], 1);

@@ -191,7 +191,7 @@ unsigned long differ(const struct way *ours, const char *by, const struct way *w
         }
     }
     /* every verdict that a call has must have been met */
-    static const unsigned possible[6] = {0, 0x3FF, 0xDD, 0x9DD, 0x5DD, 0x15DD};
+    static const unsigned possible[6] = {0, 0x3FF, 0xDD, 0x81D, 0x5DD, 0x15DD};
     for (int op = 1; op < 6; op++)
         for (int v = 0; v < 13; v++)
             if ((seen[op][v] == 0) == (possible[op] >> v & 1) && packets >= 10000) {

@@ -13,6 +13,10 @@ enum { ICMP = 1, TCP = 6, UDP = 17, ICMP6 = 58 };
 #define ONCE 0
 #define COPIES 1
 
+/* How far a call looks: at the IP header and the declared length (a lifetime), at the message's shape too, and at the
+ * header's sum as well (a judge). */
+enum look { OUTER, SHAPED, SUMMED };
+
 /* A message, as far as it is known, and where its body begins. The first four are constants in each copy, and so is the
  * header's length but for one copy. */
 struct message {
@@ -28,7 +32,7 @@ struct ask {
     struct message *found;
 };
 
-/* What a call does once the shape is known. */
+/* What a call does once it has looked. */
 typedef uint8_t work(uint8_t *p, struct message m, struct ask ask);
 
 /* The layout */
@@ -67,34 +71,35 @@ EACH uint8_t covered(work *then, uint8_t *p, int family, unsigned protocol, size
 }
 
 /* What follows the IP header: a copy of all the rest, or, once, what is known is handed on. */
-EACH uint8_t behind(work *then, uint8_t *p, int family, unsigned protocol, size_t header, size_t len, struct ask ask)
+EACH uint8_t behind(work *then, enum look look, uint8_t *p, int family, unsigned protocol, size_t header, size_t len,
+                    struct ask ask)
 {
-    if (SHAPE == COPIES)
+    if (SHAPE == COPIES && look != OUTER)
         return covered(then, p, family, protocol, header, len, ask);
     return then(p, (struct message){family, protocol, 0, 0, header, len, 0}, ask);
 }
 
 /* An IPv4 header of which 20 bytes are there. */
-EACH uint8_t outer4(work *then, int judging, uint8_t *p, size_t len, size_t header, struct ask ask)
+EACH uint8_t outer4(work *then, enum look look, uint8_t *p, size_t len, size_t header, struct ask ask)
 {
     /* a declared length below the header's wraps, and is then too much too */
     size_t message = (size_t)number(p + 2) - header;
     if (RARE(message > len - header))
         return number(p + 2) < header ? 4 : 2;
-    if (judging) {
+    if (look == SUMMED) {
         u64 t = add_two(eight(p), four(p + 8), eight(p + 12));
         for (size_t i = 20; i < header; i += 4)
             t = add(t, four(p + i));
         if (RARE(!passes(t)))
             return 5;
     }
-    if (RARE(two(p + 6) & 0xFF3F))
+    if (look != OUTER && RARE(two(p + 6) & 0xFF3F))
         return 6;
-    return behind(then, p, 4, p[9], header, message, ask);
+    return behind(then, look, p, 4, p[9], header, message, ask);
 }
 
-/* Finds the message, or the first refusal. Only a judge looks at the header's sum. */
-EACH uint8_t outer(work *then, int judging, uint8_t *p, size_t len, struct ask ask)
+/* Finds the message, or the first refusal. */
+EACH uint8_t outer(work *then, enum look look, uint8_t *p, size_t len, struct ask ask)
 {
     if (RARE(len < 20)) {
         if (len == 0)
@@ -102,12 +107,12 @@ EACH uint8_t outer(work *then, int judging, uint8_t *p, size_t len, struct ask a
         return p[0] >> 4 == 4 || p[0] >> 4 == 6 ? 2 : 3;
     }
     if (SHAPE == COPIES && p[0] == 0x45)
-        return outer4(then, judging, p, len, 20, ask);
+        return outer4(then, look, p, len, 20, ask);
     if (p[0] >> 4 == 6) {
         size_t message = number(p + 4);
         if (RARE(len < 40) || RARE(message > len - 40))
             return 2;
-        return behind(then, p, 6, p[6], 40, message, ask);
+        return behind(then, look, p, 6, p[6], 40, message, ask);
     }
     if (p[0] >> 4 != 4)
         return 3;
@@ -116,7 +121,7 @@ EACH uint8_t outer(work *then, int judging, uint8_t *p, size_t len, struct ask a
         return 4;
     if (len < header)
         return number(p + 2) < header ? 4 : 2;
-    return outer4(then, judging, p, len, header, ask);
+    return outer4(then, look, p, len, header, ask);
 }
 
 /* Hands a message on. */
@@ -127,15 +132,15 @@ EACH uint8_t found(uint8_t *p, struct message m, struct ask ask)
     return 0;
 }
 
-/* Does the work of a call on a packet whose shape is right: in copies inside the layout, or once behind it. */
-EACH uint8_t whole(work *then, int judging, uint8_t *p, size_t len, struct ask ask)
+/* Does the work of a call on a packet that nothing refused: in copies inside the layout, or once behind it. */
+EACH uint8_t whole(work *then, enum look look, uint8_t *p, size_t len, struct ask ask)
 {
     if (SHAPE == COPIES)
-        return outer(then, judging, p, len, ask);
+        return outer(then, look, p, len, ask);
     struct message m;
     ask.found = &m;
-    uint8_t refused = outer(found, judging, p, len, ask);
-    if (!refused)
+    uint8_t refused = outer(found, look, p, len, ask);
+    if (look != OUTER && !refused)
         refused = covered(found, p, m.family, m.protocol, m.header, m.len, ask);
     return refused ? refused : then(p, m, ask);
 }
@@ -213,8 +218,6 @@ EACH uint8_t lowered(uint8_t *p, struct message m, struct ask ask)
 {
     (void)ask;
     if (m.family == 6) {
-        if (silent(p, m))
-            return 8;
         if (RARE(p[7] < 2))
             return 11;
         p[7]--;
@@ -328,27 +331,27 @@ static uint16_t field(const uint8_t *bytes, size_t len)
 
 static uint8_t judge(const uint8_t *packet, size_t len)
 {
-    return whole(judged, 1, (uint8_t *)packet, len, none);
+    return whole(judged, SUMMED, (uint8_t *)packet, len, none);
 }
 
 static uint8_t mend(uint8_t *packet, size_t len)
 {
-    return whole(mended, 0, packet, len, none);
+    return whole(mended, SHAPED, packet, len, none);
 }
 
 static uint8_t lower(uint8_t *packet, size_t len)
 {
-    return whole(lowered, 0, packet, len, none);
+    return whole(lowered, OUTER, packet, len, none);
 }
 
 static uint8_t address(uint8_t *packet, size_t len, uint32_t side, const uint8_t *bytes, size_t bytes_len)
 {
-    return whole(addressed, 0, packet, len, (struct ask){side, bytes_len, bytes, 0});
+    return whole(addressed, SHAPED, packet, len, (struct ask){side, bytes_len, bytes, 0});
 }
 
 static uint8_t stretch(uint8_t *packet, size_t len, size_t place, const uint8_t *bytes, size_t bytes_len)
 {
-    return whole(stretched, 0, packet, len, (struct ask){place, bytes_len, bytes, 0});
+    return whole(stretched, SHAPED, packet, len, (struct ask){place, bytes_len, bytes, 0});
 }
 
 static const struct way way = {

@@ -1,7 +1,7 @@
 /* What a C user would take instead of the library: three ways to sum, and chains, a relay's judge, mender
- * and edits over each. They serve UDP over IPv4 and IPv6 alone, test what a careful user tests, and sum in
- * the machine's byte order, as RFC 1071 advises. An edit sums afresh what it touched, but for the last
- * way, which updates by RFC 1624. All answer 1 where they refuse. */
+ * and edits over each. They serve UDP over IPv4 and IPv6 alone, and a lifetime whatever the message is, test
+ * what a careful user tests, and sum in the machine's byte order, as RFC 1071 advises. An edit sums afresh
+ * what it touched, but for the last way, which updates by RFC 1624. All answer 1 where they refuse. */
 #include "ways.h"
 
 #include <string.h>
@@ -91,28 +91,29 @@ static uint16_t sum_dpdk(const uint8_t *bytes, size_t len)
     return (uint16_t)sum;
 }
 
-/* Where things are in a UDP packet. */
+/* Where things are in a packet. */
 struct place {
     size_t start, end, source, address_len;
     int four;
 };
 
-static inline int find(const uint8_t *p, size_t len, struct place *at)
+/* Finds them, and looks whether it is UDP and whole. A lifetime needs the IP header and the declared length alone. */
+static inline int find(const uint8_t *p, size_t len, struct place *at, int udp)
 {
     if (len >= 20 && p[0] >> 4 == 4) {
         *at = (struct place){4u * (p[0] & 15), swap(word(p + 2)), 12, 4, 1};
         if (at->start < 20 || at->end < at->start || at->end > len)
             return 0;
-        if ((swap(word(p + 6)) & 0x3FFF) || p[9] != 17)
+        if (udp && ((swap(word(p + 6)) & 0x3FFF) || p[9] != 17))
             return 0;
     } else if (len >= 40 && p[0] >> 4 == 6) {
         *at = (struct place){40, 40u + swap(word(p + 4)), 8, 16, 0};
-        if (at->end > len || p[6] != 17)
+        if (at->end > len || (udp && p[6] != 17))
             return 0;
     } else {
         return 0;
     }
-    return at->end - at->start >= 8 && swap(word(p + at->start + 4)) == at->end - at->start;
+    return !udp || (at->end - at->start >= 8 && swap(word(p + at->start + 4)) == at->end - at->start);
 }
 
 typedef uint16_t summing(const uint8_t *, size_t);
@@ -164,7 +165,7 @@ EACH void fresh_message(summing sum, uint8_t *p, const struct place *at)
 EACH uint8_t judge(summing sum, const uint8_t *p, size_t len)
 {
     struct place at;
-    if (!find(p, len, &at) || (at.four && sum(p, at.start) != 0xFFFF))
+    if (!find(p, len, &at, 1) || (at.four && sum(p, at.start) != 0xFFFF))
         return 1;
     if (word(p + at.start + 6) == 0)
         return 1;
@@ -174,7 +175,7 @@ EACH uint8_t judge(summing sum, const uint8_t *p, size_t len)
 EACH uint8_t mend(summing sum, uint8_t *p, size_t len)
 {
     struct place at;
-    if (!find(p, len, &at))
+    if (!find(p, len, &at, 1))
         return 1;
     fresh_header(sum, p, &at);
     fresh_message(sum, p, &at);
@@ -184,7 +185,7 @@ EACH uint8_t mend(summing sum, uint8_t *p, size_t len)
 EACH uint8_t lower(summing sum, uint8_t *p, size_t len)
 {
     struct place at;
-    if (!find(p, len, &at))
+    if (!find(p, len, &at, 0))
         return 1;
     uint8_t *lifetime = p + (at.four ? 8 : 7);
     if (*lifetime < 2)
@@ -197,7 +198,7 @@ EACH uint8_t lower(summing sum, uint8_t *p, size_t len)
 EACH uint8_t address(summing sum, uint8_t *p, size_t len, uint32_t side, const uint8_t *new, size_t new_len)
 {
     struct place at;
-    if (!find(p, len, &at) || side > 1 || new_len != at.address_len)
+    if (!find(p, len, &at, 1) || side > 1 || new_len != at.address_len)
         return 1;
     memcpy(p + at.source + side * at.address_len, new, at.address_len);
     fresh_header(sum, p, &at);
@@ -208,7 +209,7 @@ EACH uint8_t address(summing sum, uint8_t *p, size_t len, uint32_t side, const u
 EACH uint8_t stretch(summing sum, uint8_t *p, size_t len, size_t where, const uint8_t *new, size_t new_len)
 {
     struct place at;
-    if (!find(p, len, &at) || new_len > at.end - at.start - 8 || where > at.end - at.start - 8 - new_len)
+    if (!find(p, len, &at, 1) || new_len > at.end - at.start - 8 || where > at.end - at.start - 8 - new_len)
         return 1;
     memcpy(p + at.start + 8 + where, new, new_len);
     fresh_message(sum, p, &at);
@@ -271,7 +272,7 @@ static inline void update_message(uint8_t *udp, uint16_t old, uint16_t new)
 static uint8_t hand_lower(uint8_t *p, size_t len)
 {
     struct place at;
-    if (!find(p, len, &at))
+    if (!find(p, len, &at, 0))
         return 1;
     uint8_t *lifetime = p + (at.four ? 8 : 7);
     if (*lifetime < 2)
@@ -285,7 +286,7 @@ static uint8_t hand_lower(uint8_t *p, size_t len)
 static uint8_t hand_address(uint8_t *p, size_t len, uint32_t side, const uint8_t *new, size_t new_len)
 {
     struct place at;
-    if (!find(p, len, &at) || side > 1 || new_len != at.address_len)
+    if (!find(p, len, &at, 1) || side > 1 || new_len != at.address_len)
         return 1;
     uint8_t *here = p + at.source + side * at.address_len;
     uint16_t old_fold = sum_rfc1071(here, at.address_len), new_fold = sum_rfc1071(new, at.address_len);
@@ -299,7 +300,7 @@ static uint8_t hand_address(uint8_t *p, size_t len, uint32_t side, const uint8_t
 static uint8_t hand_stretch(uint8_t *p, size_t len, size_t where, const uint8_t *new, size_t new_len)
 {
     struct place at;
-    if (!find(p, len, &at) || new_len > at.end - at.start - 8 || where > at.end - at.start - 8 - new_len)
+    if (!find(p, len, &at, 1) || new_len > at.end - at.start - 8 || where > at.end - at.start - 8 - new_len)
         return 1;
     uint8_t *here = p + at.start + 8 + where;
     uint16_t old_fold = sum_rfc1071(here, new_len), new_fold = sum_rfc1071(new, new_len);
