@@ -1,6 +1,7 @@
 """Holds the library to tools that nobody here wrote: scapy, the Linux kernel and tshark.
 
-interop.py KERNEL.pcap OURS..: a capture of what the kernel sent, and the words that start ours.c's program.
+interop.py KERNEL.pcap SEEN.pcap SENT.pcap OURS..: captures of what the kernel sent, of what came to relay.py and of
+what left it, and the words that start ours.c's program.
 Prints a table of counts. At a disagreement it prints the packet in hex, and the exit status is 1.
 """
 import random
@@ -14,8 +15,10 @@ from scapy.layers.inet6 import ICMPv6EchoReply, ICMPv6EchoRequest, ICMPv6ND_NA, 
 from scapy.packet import Raw
 from scapy.utils import checksum
 
+from fragments import Fragment, is_fragment, messages
+
 SEED, MADE, ZEROS, FULLS, DAMAGES, STRETCHES = 20, 1500, 60, 432, 4, 2
-GOOD, UNSUMMED, HEADER_SUM, UNCOVERED, MESSAGE_SUM = 0, 1, 5, 7, 9
+GOOD, UNSUMMED, HEADER_SUM, FRAGMENT, UNCOVERED, MESSAGE_SUM = 0, 1, 5, 6, 7, 9
 FIXED = {1: (8, 2), 6: (20, 16), 17: (8, 6), 58: (4, 2)}  # protocol: fixed header, place of the field
 FULL = ["ffff", "80ff7f", "80007fff", "0000ffff", "1234edcb00", "ffffffffffff"]  # their fold is FFFF anywhere
 FULL_ADDRESSES = ["ffffffff", "80007fff", "0000ffff", "fe80017f"]  # the first two bytes and the last, zeros between
@@ -60,7 +63,7 @@ def ours(requests):
         letter.encode() + struct.pack(">II", number, len(new)) + new + struct.pack(">I", len(data)) + data
         for letter, number, new, data in requests
     )
-    got = subprocess.run(sys.argv[2:], input=sent, stdout=subprocess.PIPE, check=True).stdout
+    got = subprocess.run(sys.argv[4:], input=sent, stdout=subprocess.PIPE, check=True).stdout
     answers, at = [], 0
     while at < len(got):
         verdict, length = struct.unpack_from(">BI", got, at)
@@ -90,14 +93,18 @@ def asked(packets, fields):
     return [line.split(",") for line in lines]
 
 
+def status(said):
+    """What tshark says of a sum, as a number: some editions print words."""
+    return {"Bad": "0", "Good": "1", "Not present": "3"}.get(said, said)
+
+
 def tshark(packets):
     """What tshark's checksum check finds, in our verdict numbers; None where it says neither good nor bad."""
     fields = [f + ".checksum.status" for f in ("ip", "udp", "tcp", "icmp", "icmpv6")]
-    numbers = {"Bad": "0", "Good": "1", "Not present": "3"}  # some editions print words
     verdicts = []
     for values in asked(packets, fields):
-        header, *messages = [numbers.get(s, s) for s in values]
-        message = next((s for s in messages if s), None)
+        header, *others = map(status, values)
+        message = next((s for s in others if s), None)
         found = {"0": MESSAGE_SUM, "1": GOOD, "3": UNSUMMED}.get(message)
         verdicts.append(HEADER_SUM if header == "0" else found)
     return verdicts
@@ -192,19 +199,29 @@ def full_made(i):
     return bytes(made), packet.end - packet.body - len(body) - 2 + pad, len(old)
 
 
-def kernel_made(path):
-    """The IP packets of a capture of Ethernet frames."""
+def frames(path):
+    """The frames of a capture of Ethernet."""
     with open(path, "rb") as file:
         data = file.read()
     assert data[:4] in (b"\xd4\xc3\xb2\xa1", b"\x4d\x3c\xb2\xa1") and data[20] == 1, "no capture of Ethernet"
-    at, packets = 24, []
+    at, found = 24, []
     while at < len(data):
         length = struct.unpack_from("<I", data, at + 8)[0]
-        frame = data[at + 16:at + 16 + length]
-        if frame[12:14] in (b"\x08\x00", b"\x86\xdd"):
-            packets.append(frame[14:])
+        found.append(data[at + 16:at + 16 + length])
         at += 16 + length
-    return packets
+    return found
+
+
+def kernel_made(path):
+    """The IP packets of a capture."""
+    return [frame[14:] for frame in frames(path) if frame[12:14] in (b"\x08\x00", b"\x86\xdd")]
+
+
+def kernel_cut(seen, sent):
+    """The fragments that came to our relay, each with what left it for it: nothing if it was refused."""
+    came, left = frames(seen), frames(sent)
+    assert len(came) == len(left)
+    return [(before[14:], after[14:]) for before, after in zip(came, left) if is_fragment(before[14:])]
 
 
 # What is tried
@@ -222,15 +239,20 @@ def check_good(who, packets):
     count(f"made by {who}; good (or unsummed) for us and for tshark", agreed, len(packets))
 
 
+def spoilt(data, places):
+    """A packet with one bit or one byte changed at one of some places."""
+    at, data = rng.choice(places), bytearray(data)
+    data[at] ^= 1 << rng.randrange(8) if rng.random() < 0.5 else rng.randrange(1, 256)
+    return bytes(data)
+
+
 def damaged(packet):
-    """A packet with one bit or one byte changed where a sum must see it."""
+    """A packet that is changed where a sum must see it."""
     header = [1, 4, 5, 8, *range(10, 20)] if packet.four else range(8, 40)
     lengths = {6: (12,), 17: (4, 5)}.get(packet.protocol, ())
     message = [i for i in range(packet.start, packet.end) if i - packet.start not in lengths]
-    at = rng.choice(header if packet.unsummed or rng.random() < 0.3 else message)
-    data = bytearray(packet.data)
-    data[at] ^= 1 << rng.randrange(8) if rng.random() < 0.5 else rng.randrange(1, 256)
-    return damaged(packet) if not packet.unsummed and Packet(bytes(data)).unsummed else bytes(data)
+    data = spoilt(packet.data, header if packet.unsummed or rng.random() < 0.3 else message)
+    return damaged(packet) if not packet.unsummed and Packet(data).unsummed else data
 
 
 def check_damaged(packets):
@@ -392,6 +414,126 @@ def check_sums(letter, how, packets):
     count(f"{how} by us; the sum that scapy has of the whole", agreed, len(packets))
 
 
+# Fragments: one kernel cuts, our relay lowers lifetimes, and the other kernel puts together
+
+
+def check_lowered(family, pairs):
+    """Fragments that our relay sent on: a lifetime one less, over IPv4 scapy's sum, and the rest as it was."""
+    befores, afters = zip(*pairs)
+    fields, agreed = ["ip.checksum.status", "ip.ttl", "ipv6.hlim"], 0
+    good, verdict = ("1", FRAGMENT) if family == 4 else ("", UNCOVERED)
+    rows = zip(pairs, judged(befores), judged(afters), asked(befores, fields), asked(afters, fields))
+    for (before, after), was, now, (old, *high), (new, *low) in rows:
+        want = bytearray(before)
+        want[8 if family == 4 else 7] -= 1
+        if family == 4:
+            want[10:12] = b"\0\0"
+            want[10:12] = checksum(bytes(want[:20])).to_bytes(2, "big")
+        right = status(old) == status(new) == good and int("".join(low)) == int("".join(high)) - 1
+        if right and was == now == verdict and after == want:
+            agreed += 1
+        else:
+            disagree(f"a fragment lowered: we say {was} and {now}, tshark {old} {high} and {new} {low}", after)
+    four, six = "good for tshark before and after, and scapy's sum", "one less for tshark, and the rest as it was"
+    what = four if family == 4 else six
+    count(f"fragments by the kernel over IPv{family}, lifetime lowered by us on the way; {what}", agreed, len(pairs))
+
+
+def is_silent(message):
+    """Whether a message was sent without a sum."""
+    return message.protocol == 17 and message.whole[6:8] == b"\0\0"
+
+
+def check_together(family, pairs):
+    """Messages in fragments that our relay sent on: right for tshark, and what the kernel sent."""
+    afters, agreed = [after for _, after in pairs], 0
+    wholes = asked(afters, ["ip.reassembled.data", "ipv6.reassembled.data"])
+    found = [(they, bytes.fromhex("".join(hexes))) for they, hexes in zip(tshark(afters), wholes)]
+    for before, after in zip(messages([before for before, _ in pairs]), messages(afters)):
+        want = UNSUMMED if is_silent(before) else GOOD, before.whole
+        early = [i for i in after.places if i != after.last and found[i] != (None, b"")]
+        if found[after.last] == want and after.whole == before.whole and not early:
+            agreed += 1
+        else:
+            disagree(f"put together: tshark says {found[after.last][0]}", afters[after.last])
+    count(f"datagrams and pings in these over IPv{family}; good (or unsummed) for tshark, together, and the bytes sent",
+          agreed, len(messages(afters)))
+
+
+def check_answered(family, pairs):
+    """What one kernel asked and the other, which had only what our relay sent on, answered with the same bytes."""
+    came, agreed = messages([before for before, _ in pairs]), 0
+    asks = [m for m in came if m.source == came[0].source]
+    answers = {(m.protocol, m.whole[8 if m.protocol == 17 else 4:]): m for m in came if m.source != came[0].source}
+    for ask in asks:
+        answer = answers.get((ask.protocol, ask.whole[8 if ask.protocol == 17 else 4:]))
+        if answer and ask.protocol == 17:
+            right = ask.whole[:4] == answer.whole[2:4] + answer.whole[:2]  # ports
+        else:
+            right = answer and (ask.whole[0], answer.whole[0]) == {1: (8, 0), 58: (128, 129)}[ask.protocol]  # echoes
+        if right:
+            agreed += 1
+        else:
+            disagree("a message in fragments was not answered", ask.whole)
+    count(f"requests among these over IPv{family}; put together by the other kernel, answered with the same bytes",
+          agreed, len(asks))
+
+
+def check_header_wrong(packets):
+    """IPv4 fragments whose header we damage: lowered by us, and as wrong as before."""
+    broken, agreed = [spoilt(data, [1, 4, 5, 9, *range(10, 20)]) for data in packets], 0
+    answers = ours([("l", 0, b"", data) for data in broken])
+    lowered = [data for _, data in answers]
+    rows = zip(answers, judged(broken), judged(lowered), tshark(broken), tshark(lowered))
+    for (verdict, data), was, now, old, new in rows:
+        if verdict == GOOD and was == now == old == new == HEADER_SUM:
+            agreed += 1
+        else:
+            disagree(f"a fragment damaged: answered {verdict}, we say {was} and {now}, tshark {old} and {new}", data)
+    count("fragments damaged by us in IPv4's header, lifetime lowered by us; bad for us and tshark before and after",
+          agreed, len(packets))
+
+
+def check_message_wrong(family, packets):
+    """Messages that we damage in one fragment after the first: all lowered by us, and wrong when they are together."""
+    spoils, broken, agreed = [m for m in messages(packets) if not is_silent(m)], list(packets), 0
+    for message in spoils:
+        at = rng.choice([i for i in message.places if Fragment(packets[i]).offset > 0])
+        broken[at] = spoilt(packets[at], range(Fragment(packets[at]).start, len(packets[at])))
+    answers = ours([("l", 0, b"", data) for data in broken])
+    found = tshark([data for _, data in answers])
+    for message in spoils:
+        if found[message.last] == MESSAGE_SUM and all(answers[i][0] == GOOD for i in message.places):
+            agreed += 1
+        else:
+            disagree(f"put together, damaged: tshark says {found[message.last]}", answers[message.last][1])
+    count(f"datagrams and pings over IPv{family}, one fragment damaged by us, all lowered by us; bad for tshark, together",
+          agreed, len(spoils))
+
+
+def check_fragments(pairs):
+    """Fragments that came to our relay, and what left it. All kinds must have come, in three pieces or more."""
+    for family in (4, 6):
+        those = [pair for pair in pairs if pair[0][0] >> 4 == family]
+        passed = [pair for pair in those if Fragment(pair[0]).lifetime > 1]
+        befores = [before for before, _ in passed]
+        whole = all(m.whole and len(m.places) >= 3 for m in messages(befores))
+        kinds = {(m.protocol, m.source.hex()) for m in messages(befores)}
+        if not whole or len(kinds) != 4 or not all(after for _, after in passed) or len(passed) == len(those):
+            disagree(f"fragments over IPv{family} didn't come or didn't get through; kinds {sorted(kinds)}", b"")
+            continue
+        check_lowered(family, passed)
+        check_together(family, passed)
+        check_answered(family, passed)
+        if family == 4:
+            check_header_wrong(befores)
+        check_message_wrong(family, befores)
+    spent = [after for before, after in pairs if Fragment(before).lifetime < 2]
+    for after in filter(None, spent):
+        disagree("a fragment with a spent lifetime was sent on", after)
+    count("fragments by the kernel with the lifetime 1; refused by us on the way", spent.count(b""), len(spent))
+
+
 def main():
     made = [scapy_made() for _ in range(MADE)] + [zero_made(i) for i in range(ZEROS)]
     sent = kernel_made(sys.argv[1])
@@ -412,6 +554,7 @@ def main():
     check_sums("c", "cut and summed as a chain", both)
     check_sums("p", "cut, summed piece by piece and joined", both)
     check_bits(both)
+    check_fragments(kernel_cut(sys.argv[2], sys.argv[3]))
     print("| what | packets | agreed |\n|---|---|---|")
     for what, packets, agreed in table:
         print(f"| {what} | {packets} | {agreed} |")

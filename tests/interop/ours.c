@@ -3,9 +3,11 @@
  * A request is a letter (j judge, m mend, l lower lifetime, a set address, s set stretch, c sum a chain,
  * p sum piece by piece and join), a number (side or place), new bytes (for c and p the list of pieces)
  * and a packet; an answer is a verdict number and the packet (for c and p the fold and the length in its
- * place). Numbers are 32-bit, high byte first, and bytes come after their number. */
+ * place). Numbers are 32-bit, high byte first, and bytes come after their number. With the word live each
+ * answer is out before the next request is awaited. */
 #include <stdio.h>
 #include <stdlib.h>
+#include <string.h>
 
 #include "hifrostum.h"
 
@@ -65,9 +67,10 @@ static uint8_t sum(int joined, const uint8_t *list, size_t list_len, uint8_t *pa
     return verdict;
 }
 
-int main(void)
+int main(int argc, char **argv)
 {
     static uint8_t new[LONGEST], packet[LONGEST];
+    int live = argc == 2 && strcmp(argv[1], "live") == 0;
     for (int letter; (letter = getchar()) != EOF;) {
         uint32_t where = number();
         size_t new_len = bytes(new), len = bytes(packet);
@@ -84,7 +87,7 @@ int main(void)
         }
         uint8_t head[5] = {verdict};
         put(head + 1, 4, len);
-        if (fwrite(head, 1, 5, stdout) != 5 || fwrite(packet, 1, len, stdout) != len)
+        if (fwrite(head, 1, 5, stdout) != 5 || fwrite(packet, 1, len, stdout) != len || (live && fflush(stdout) != 0))
             stop("an answer was not taken");
     }
     if (fflush(stdout) != 0)

@@ -1,9 +1,15 @@
 #!/bin/sh
 # Holds the library to scapy, the Linux kernel and tshark. It needs root: it installs what is missing
-# from Debian, and makes two network namespaces for the kernel's packets, which it removes again.
+# from Debian, and makes three network namespaces for the kernel's packets, which it removes again.
 set -eu
 cd "$(dirname "$0")/../.."
 x86=scripts/x86.sh out=target/interop python=/usr/bin/python3
+export PYTHONDONTWRITEBYTECODE=1
+
+fail() {
+    echo "interop: $*" >&2
+    exit 1
+}
 
 scripts/setup.sh
 missing=
@@ -23,40 +29,57 @@ archive=$($x86 lib)/libhifrostum.a
 mkdir -p $out
 $x86 cc -O2 -std=c11 -Wall -Wextra -Wpedantic -Werror -Iinclude tests/interop/ours.c "$archive" -o $out/ours
 
-# Two namespaces, a and b, and a pair of cards between them that leave the sums to the kernel.
-a=hifrostum-a-$$ b=hifrostum-b-$$ server='' capture=''
+# Two namespaces, a and b, and two ways between them: a pair of cards (net 99), and through a third namespace, m, where
+# our relay takes what comes at one card to the other (net 98). All cards leave the sums to the kernel. Those of the
+# second way take 1,280 bytes, as few as IPv6 allows.
+a=hifrostum-a-$$ b=hifrostum-b-$$ m=hifrostum-m-$$ server='' capture='' relay=''
 clean() {
-    [ -z "$server" ] || kill "$server" 2>/dev/null || true
-    [ -z "$capture" ] || kill "$capture" 2>/dev/null || true
-    ip netns del $a 2>/dev/null || true
-    ip netns del $b 2>/dev/null || true
+    for process in $server $capture $relay; do
+        kill "$process" 2>/dev/null || true
+    done
+    for ns in $a $b $m; do
+        ip netns del "$ns" 2>/dev/null || true
+    done
 }
 trap clean EXIT
 trap 'exit 1' INT TERM
-ip netns add $a
-ip netns add $b
+for ns in $a $b $m; do
+    ip netns add "$ns"
+done
 ip link add card netns $a type veth peer name card netns $b
+ip link add far netns $a type veth peer name left netns $m
+ip link add far netns $b type veth peer name right netns $m
+start() { # NAMESPACE CARD
+    ip netns exec "$1" ethtool -K "$2" tx off rx off tso off gso off gro off >/dev/null
+    ip -n "$1" link set "$2" up
+}
+start $m left
+start $m right
 number=1
 for ns in $a $b; do
-    ip netns exec "$ns" ethtool -K card tx off rx off tso off gso off gro off >/dev/null
-    ip -n "$ns" addr add 10.99.0.$number/24 dev card
-    ip -n "$ns" addr add fd99::$number/64 dev card nodad
-    ip -n "$ns" link set card up
+    for net in 99:card 98:far; do
+        ip -n "$ns" addr add 10.${net%:*}.0.$number/24 dev "${net#*:}"
+        ip -n "$ns" addr add fd${net%:*}::$number/64 dev "${net#*:}" nodad
+        start "$ns" "${net#*:}"
+    done
+    ip -n "$ns" link set far mtu 1280
     number=$((number + 1))
 done
 
-# The capture ends by itself after a minute or 5,000 packets, whatever happens here.
-rm -f $out/kernel.pcap $out/ready
+# The capture ends by itself after a minute or 5,000 packets, whatever happens here, and so do server and relay.
+rm -f $out/kernel.pcap $out/ready $out/relaying
 ip netns exec $b dumpcap -q -P -i card -a duration:60 -c 5000 -w $out/kernel.pcap 2>$out/dumpcap.log &
 capture=$!
-ip netns exec $b timeout 60 $python tests/interop/talk.py serve >$out/ready &
+ip netns exec $b timeout 120 $python tests/interop/talk.py serve >$out/ready &
 server=$!
+ip netns exec $m timeout 120 $python tests/interop/relay.py left right $out/seen.pcap $out/sent.pcap \
+    $x86 run $out/ours >$out/relaying &
+relay=$!
 tries=0
-until [ -s $out/kernel.pcap ] && [ -s $out/ready ]; do
+until [ -s $out/kernel.pcap ] && [ -s $out/ready ] && [ -s $out/relaying ]; do
     tries=$((tries + 1))
     if [ $tries -gt 100 ]; then
-        echo "interop: the capture or the server didn't start ($out/dumpcap.log)" >&2
-        exit 1
+        fail "the capture, the server or the relay didn't start ($out/dumpcap.log)"
     fi
     sleep 0.1
 done
@@ -70,4 +93,19 @@ kill -INT $capture
 wait $capture || true
 capture=
 
-$python tests/interop/interop.py $out/kernel.pcap $x86 run $out/ours
+# Through the relay goes what is so long that the kernel cuts it, but nothing with a lifetime of 1.
+ip netns exec $a timeout 60 $python tests/interop/talk.py large 10.98.0.2 fd98::2 ||
+    fail "a datagram in fragments was not answered through the relay"
+for to in 10.98.0.2 fd98::2; do
+    for size in 2600 2601 4096 9999 30000 65000; do
+        ip netns exec $a ping -q -n -c 1 -W 5 -s $size $to >/dev/null ||
+            fail "a ping of $size bytes to $to was not answered through the relay"
+    done
+    ! ip netns exec $a ping -q -n -c 1 -W 1 -t 1 -s 2600 $to >/dev/null ||
+        fail "a ping with the lifetime 1 to $to was answered through the relay"
+done
+kill $relay
+wait $relay || true
+relay=
+
+$python tests/interop/interop.py $out/kernel.pcap $out/seen.pcap $out/sent.pcap $x86 run $out/ours

@@ -2,6 +2,7 @@
 
 talk.py serve: answers each datagram and each connection with what it got, until it is ended.
 talk.py ask ADDRESS..: sends so much to each address, and sees that it comes back.
+talk.py large ADDRESS..: the same with datagrams that the kernel must cut into three fragments or more.
 """
 import random
 import selectors
@@ -11,6 +12,7 @@ import sys
 PORT = 40404
 SO_NO_CHECK = 11  # Linux: send UDP over IPv4 without a sum
 SIZES = [0, 1, 2, 3, 4, 5, 7, 8, 15, 16, 31, 32, 63, 64, 100, 255, 256, 511, 512, 999, 1000, 1400]
+LARGE = [2600, 2601, 4096, 9999, 30000, 65507]  # the last is the longest that IPv4 has
 
 
 def serve():
@@ -26,7 +28,7 @@ def serve():
     while True:
         for key, _ in picker.select():
             if key.fileobj.type == socket.SOCK_DGRAM:
-                data, peer = key.fileobj.recvfrom(2048)
+                data, peer = key.fileobj.recvfrom(65536)
                 key.fileobj.sendto(data, peer)
             else:
                 with key.fileobj.accept()[0] as connection:
@@ -34,7 +36,7 @@ def serve():
                         connection.sendall(data)
 
 
-def ask(address):
+def datagrams(address, sizes):
     family = socket.AF_INET6 if ":" in address else socket.AF_INET
     rng = random.Random(1)
     for summed in (True, False) if family == socket.AF_INET else (True,):
@@ -42,10 +44,14 @@ def ask(address):
             s.settimeout(5)
             if not summed:
                 s.setsockopt(socket.SOL_SOCKET, SO_NO_CHECK, 1)
-            for size in SIZES:
+            for size in sizes:
                 data = rng.randbytes(size)
                 s.sendto(data, (address, PORT))
-                assert s.recv(2048) == data
+                assert s.recv(65536) == data
+
+
+def stream(address):
+    rng = random.Random(2)
     with socket.create_connection((address, PORT), timeout=5) as s:
         for size in SIZES[1:]:
             data = rng.randbytes(size)
@@ -58,6 +64,10 @@ def ask(address):
 
 if sys.argv[1] == "serve":
     serve()
+elif sys.argv[1] == "ask":
+    for each in sys.argv[2:]:
+        datagrams(each, SIZES)
+        stream(each)
 else:
     for each in sys.argv[2:]:
-        ask(each)
+        datagrams(each, LARGE)
