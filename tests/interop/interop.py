@@ -507,7 +507,7 @@ def check_message_wrong(family, packets):
             agreed += 1
         else:
             disagree(f"put together, damaged: tshark says {found[message.last]}", answers[message.last][1])
-    count(f"datagrams and pings over IPv{family}, one fragment damaged by us, all lowered by us; bad for tshark, together",
+    count(f"datagrams and pings over IPv{family}, one fragment damaged and all lowered by us; bad for tshark, together",
           agreed, len(spoils))
 
 
