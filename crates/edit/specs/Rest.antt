@@ -1,4 +1,5 @@
--- What each edit answers where the packet's shape is right. A reader need not believe these: the contracts cite `kept`.
+-- What each edit answers where the packet's shape is right, for a lifetime the outer one. A reader need not believe these: the
+-- contracts cite `kept`.
 use Prim.Native.Nat.{ℕ, _+_}
 use mathlib.Core.List.{List}
 use Rattle.verdicts.specs.Rules.{first}
@@ -8,7 +9,7 @@ use Rattle.wire.specs.Inner.{bodyOf}
 use Rattle.judge.specs.Judge.{missingRule}
 use Rattle.kept.specs.Edits.{lifetimeRules, lifetimeLeft, sideAt, addressRules, addressLeft, stretchRules, stretchLeft}
 
--- what is answered where UDP's sum isn't missing
+-- what address and stretch answer where UDP's sum isn't missing
 abbrev pub unlessMissing : List ℕ → Verdict × List ℕ → Verdict × List ℕ
 unlessMissing p x = first (missingRule p) (λ v. (v, p)) x
 

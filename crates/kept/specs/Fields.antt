@@ -1,4 +1,4 @@
--- Which of the sum fields an edit updates.
+-- Which of the sum fields an edit updates, and whether a sum is right.
 use Prim.Native.Nat.{ℕ}
 use mathlib.Core.Path.{_≡_}
 use mathlib.Core.Logic.{_⊎_}

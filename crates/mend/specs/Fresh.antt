@@ -31,8 +31,8 @@ abbrev pub placed : Sum → List ℕ → ℕ
 placed header p = headerField
 placed message p = fieldAt p
 
--- it is in use: the header's in IPv4, and the message's where the packet carries a message, unless it is UDP's 0000 over IPv4. So of a
--- fragment, of a protocol that isn't covered and of a message whose shape is refused it is the header's alone
+-- it is in use: the header's in IPv4; the message's where the packet carries a message, unless that is UDP's 0000 over IPv4. A packet
+-- that carries none (a fragment, a protocol that isn't covered, a message whose shape is refused) has the header's alone
 abbrev pub used : Sum → List ℕ → Bool
 used header p = four p
 used message p = carries p && not (silentOf p && four p)

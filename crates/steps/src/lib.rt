@@ -1,5 +1,5 @@
-// What the edits have in common: the packets that none of them takes, whether ICMP is blank, and fields updated and
-// written.
+// What the edits have in common: UDP over IPv6 without a sum, which address and stretch refuse, whether ICMP is blank,
+// and fields updated and written.
 mod blank;
 mod update;
 
