@@ -68,8 +68,8 @@ uint8_t hifrostum_judge(const uint8_t *packet, size_t len);
 uint8_t hifrostum_mend(uint8_t *packet, size_t len);
 
 /* Lowers the lifetime (time to live, hop limit) by one and updates the IPv4 header field. The message
- * is not looked at: a fragment, an unknown protocol and a message of a wrong shape don't stop it, and
- * the verdict stays what it was for these too. So judge first, and send on by the verdict.
+ * is not looked at: a fragment, an unknown protocol, a message of a wrong shape and a missing sum (8)
+ * don't stop it, and the verdict stays what it was for these too. So judge first, and send on by the verdict.
  * A damaged packet stays damaged: an edit updates and never mends. In a good one each field that it
  * updates becomes the one that hifrostum_mend would write. This holds of all three edits.
  * Refusals: the outer ones; 11 if the lifetime is 0 or 1. */
