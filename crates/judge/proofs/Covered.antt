@@ -1,7 +1,7 @@
 -- The judge's blocks at the RFCs' places, for packets of bytes.
 use mathlib.Core.Path.{_≡_, sym, ap, ap₂, subst, _∙_}
 use mathlib.Core.Logic.{_↔_}
-use Prim.Native.Nat.{ℕ, _-_, _/_, _%_, _<_, _≤_}
+use Prim.Native.Nat.{ℕ, _+_, _-_, _/_, _%_, _<_, _≤_}
 use native.Mathlib.Omega.{arith}
 use mathlib.Core.List.{List, [], _∷_, _++_, append-assoc}
 use mathlib.Core.Bool.{true, false}
@@ -9,7 +9,7 @@ use Rattle.verdicts.proofs.Tests.{by-cases}
 use Rattle.wire.specs.Bytes.{byteAt, wordAt, part, Bytes}
 use Rattle.wire.specs.Outer.{four, familyOf, headerEnd, declaredEnd, protocolOf, addressesAt, addressesLength}
 use Rattle.wire.specs.Messages.{restIn}
-use Rattle.wire.specs.Inner.{startOf, endOf, lengthOf, messageBytes, pseudo, headerBytes, addressesOf, beforeOf, coveredOf}
+use Rattle.wire.specs.Inner.{startOf, lengthOf, messageBytes, udp, pseudo, headerBytes, addressesOf, beforeOf, coveredOf}
 use Rattle.wire.specs.declared.Family.{Family}
 use Rattle.wire.specs.declared.Family.the-variants.{Four, Six}
 use Rattle.wire.proofs.Parts.{part-add, Small, bytes-append, bytes-small, bytes-part}
@@ -17,7 +17,7 @@ use Rattle.wire.proofs.Facts.{Facts}
 use Rattle.wire.proofs.Same.{same-self, covered-at}
 use Rattle.wire.proofs.Held.{before-is, family4, family6}
 use Rattle.cover.specs.Sums.{headerTotal, messageTotal, headerSums, messageSums}
-use Rattle.judge.specs.Rfc.{Right, ihl, data4, data6, pseudo4, pseudo6}
+use Rattle.judge.specs.Rfc.{Right, ihl, data4, pseudo4, pseudo6}
 use Rattle.judge.proofs.Ones.{right-passes}
 
 module _ (p : List ℕ) where
@@ -31,27 +31,27 @@ module _ (p : List ℕ) where
     unfolding startOf
     start4 = end4
 
-    pub length4 : lengthOf p ≡ wordAt p 2 - ihl p
-    unfolding startOf endOf headerEnd declaredEnd
-    length4 = rw f
+    pub declared4 : declaredEnd p ≡ wordAt p 2
+    unfolding declaredEnd
+    declared4 = rw f
+
+    pub length4 : Facts p → udp p ≡ false → lengthOf p ≡ wordAt p 2 - ihl p
+    length4 k u = rw (k .rest u, start4, declared4)
 
     pub protocol4 : protocolOf p ≡ byteAt p 9
     unfolding protocolOf
     protocol4 = rw f
 
-    message4 : messageBytes p ≡ data4 p
-    message4 = ap₂ (part p) start4 length4
-
-    pub covered4 : Facts p → pseudo p ≡ true → (n size : ℕ) → protocolOf p ≡ n → lengthOf p ≡ size → coveredOf p ≡ pseudo4 p n size ++ data4 p
+    pub covered4 : Facts p → pseudo p ≡ true → (n size : ℕ) → protocolOf p ≡ n → lengthOf p ≡ size → coveredOf p ≡ pseudo4 p n size ++ part p (ihl p) size
     covered4 k t n size en es =
         let rest : List ℕ = 0 ∷ n ∷ size / 256 ∷ size % 256 ∷ [] in
         let before : beforeOf p ≡ pseudo4 p n size =
         before-is p t ∙ simp (family4 p f, f, en, es) (ap (λ l. l ++ rest) (part-add p 12 4 4) ∙ append-assoc (part p 12 4) (part p 16 4) rest) in
-        covered-at (same-self p) k ∙ ap₂ _++_ before message4
+        covered-at (same-self p) k ∙ ap₂ _++_ before (ap₂ (part p) start4 es)
 
-    pub plain4 : Facts p → pseudo p ≡ false → coveredOf p ≡ data4 p
+    pub plain4 : Facts p → pseudo p ≡ false → udp p ≡ false → coveredOf p ≡ data4 p
     unfolding pseudo
-    plain4 k t = covered-at (same-self p) k ∙ simp t message4
+    plain4 k t u = covered-at (same-self p) k ∙ simp t (ap₂ (part p) start4 (length4 k u))
 
   -- ---- IPv6
   module _ (f : four p ≡ false) where
@@ -59,18 +59,18 @@ module _ (p : List ℕ) where
     unfolding startOf headerEnd
     start6 = rw f
 
-    pub length6 : lengthOf p ≡ wordAt p 4
-    unfolding startOf endOf headerEnd declaredEnd
-    length6 = rw f (omega arith)
+    pub declared6 : declaredEnd p ≡ 40 + wordAt p 4
+    unfolding declaredEnd
+    declared6 = rw f
+
+    pub length6 : Facts p → udp p ≡ false → lengthOf p ≡ wordAt p 4
+    length6 k u = rw (k .rest u, start6, declared6) (omega arith)
 
     pub protocol6 : protocolOf p ≡ byteAt p 6
     unfolding protocolOf
     protocol6 = rw f
 
-    message6 : messageBytes p ≡ data6 p
-    message6 = ap₂ (part p) start6 length6
-
-    pub covered6 : Facts p → pseudo p ≡ true → (n size : ℕ) → size ≤ 65535 → protocolOf p ≡ n → lengthOf p ≡ size → coveredOf p ≡ pseudo6 p n size ++ data6 p
+    pub covered6 : Facts p → pseudo p ≡ true → (n size : ℕ) → size ≤ 65535 → protocolOf p ≡ n → lengthOf p ≡ size → coveredOf p ≡ pseudo6 p n size ++ part p 40 size
     covered6 k t n size h en es =
         let rest : List ℕ = 0 ∷ 0 ∷ size / 256 ∷ size % 256 ∷ 0 ∷ 0 ∷ 0 ∷ n ∷ [] in
         let a : size / 16777216 ≡ 0 = omega arith in
@@ -78,14 +78,14 @@ module _ (p : List ℕ) where
         let c : size / 256 % 256 ≡ size / 256 = omega arith in
         let before : beforeOf p ≡ pseudo6 p n size =
         before-is p t ∙ simp (family6 p f, f, en, es, a, b, c) (ap (λ l. l ++ rest) (part-add p 8 16 16) ∙ append-assoc (part p 8 16) (part p 24 16) rest) in
-        covered-at (same-self p) k ∙ ap₂ _++_ before message6
+        covered-at (same-self p) k ∙ ap₂ _++_ before (ap₂ (part p) start6 es)
 
   module _ (b : Bytes p) (k : Facts p) where
     length-small : lengthOf p ≤ 65535
     length-small =
         by-cases (four p)
-        (λ f. omega (arith, length4 f, b 2, b 3))
-        (λ f. omega (arith, length6 f, b 4, b 5))
+        (λ f. omega (arith, declared4 f, b 2, b 3))
+        (λ f. omega (arith, declared6 f, start6 f, b 4, b 5))
 
     protocol-small : protocolOf p < 256
     protocol-small = by-cases (four p) (λ f. rw (protocol4 f) (b 9)) (λ f. rw (protocol6 f) (b 6))

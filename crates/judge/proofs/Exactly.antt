@@ -8,6 +8,7 @@ use mathlib.Core.Bool.{Bool, false, not, _&&_, _||_, true≢false}
 use lib.ListN.{length}
 use lib.Dec.{ltb, eqb}
 use borrow.Author.Tests.{ltb-false, eqb-true, eqb-false, not-false}
+use Rattle.verdicts.specs.Choice.{if_then_else_}
 use Rattle.verdicts.specs.Numbers.{numberOf}
 use Rattle.verdicts.specs.Rules.{clear, Decides, Comes}
 use Rattle.verdicts.specs.declared.Verdict.{Verdict}
@@ -17,13 +18,13 @@ use Rattle.verdicts.proofs.Telling.{Tells, yes-tells, no-tells, eqb-tells, ltb-
 use Rattle.sums.specs.Fold.{passes}
 use Rattle.sums.proofs.Passing.{passing, passed}
 use Rattle.wire.specs.Bytes.{byteAt, wordAt}
-use Rattle.wire.specs.Outer.{versionOf, four, six, leastOf, header4Of, declaredEnd, protocolOf, splitOf, fragmentOf, outerRules, fragmentRule}
+use Rattle.wire.specs.Outer.{versionOf, familyOf, four, six, leastOf, header4Of, declaredEnd, protocolOf, splitOf, fragmentOf, outerRules, fragmentRule}
 use Rattle.wire.specs.Table.{uncovered, planOf}
-use Rattle.wire.specs.Messages.{misfitOf, shapeRules}
+use Rattle.wire.specs.Messages.{shapeRules}
 use Rattle.wire.specs.Inner.{startOf, rowIn, udp, silentOf, headerBytes, messageRules, wholeRules}
-use Rattle.wire.proofs.Lines.{covered}
+use Rattle.wire.proofs.Lines.{covered, row-lined}
 use Rattle.wire.proofs.Facts.{outer-facts, carried-length, facts}
-use Rattle.wire.proofs.InnerCases.{misfits-at}
+use Rattle.wire.proofs.InnerCases.{said-at}
 use Rattle.wire.proofs.Same.{same-self, silent-at}
 use Rattle.cover.specs.Sums.{headerTotal, messageTotal, headerSums, messageSums}
 use Rattle.judge.specs.Judge.{headerSumRule, missingRule, sumRules, judgeRules, judgeOf}
@@ -52,15 +53,23 @@ fixed-tells n size fixed t short =
     (⊎-elim (λ h. ⊎-elim (λ e. omega (arith, t .0 e)) (λ e. omega (arith, t .1 e)) (h .0))
     (⊎-elim (λ h. omega (arith, t .2 (h .0))) (λ h. omega (arith, t .3 (h .0)))))
 
-misfit-tells : (n o size u : ℕ) → Tells (misfitOf n o size u) (((n ≡ 6) × ((o < 20) ⊎ (size < o))) ⊎ ((n ≡ 17) × (u ≢ size)))
-misfit-tells n o size u =
+-- what TCP or UDP says of its length, or what is carried
+abbrev Said : ℕ → ℕ → ℕ → ℕ → ℕ
+Said n offset datagram size = if eqb n 6 then offset else if eqb n 17 then datagram else size
+
+strays-tells : (said least size : ℕ) → Tells (ltb said least || ltb size said) ((said < least) ⊎ (size < said))
+strays-tells said least size = or-tells (ltb said least) (ltb size said) (ltb-tells said least) (ltb-tells size said)
+
+said-tells : (n o u size fixed : ℕ) → (n ≡ 6 → fixed ≡ 20) → (n ≡ 17 → fixed ≡ 8) → fixed ≤ size
+    → Tells (ltb (Said n o u size) fixed || ltb size (Said n o u size)) (((n ≡ 6) × ((o < 20) ⊎ (size < o))) ⊎ ((n ≡ 17) × ((u < 8) ⊎ (size < u))))
+said-tells n o u size fixed t d l =
     by-cases (eqb n 6)
-    (λ e. simp e (as-tells (or-tells (ltb o 20) (ltb size o) (ltb-tells o 20) (ltb-tells size o))
-    (λ h. inl (eqb-true n 6 e, h))
-    (⊎-elim (λ h. h .1) (λ h. absurd (omega (arith, eqb-true n 6 e))))))
-    (λ e. simp e (as-tells (and-tells (eqb n 17) (not (eqb u size)) (eqb-tells n 17) (not-tells (eqb u size) (eqb-tells u size)))
-    inr
-    (⊎-elim (λ h. absurd (eqb-false n 6 e (h .0))) (λ h. h))))
+    (λ e. let h = eqb-true n 6 e in simp (e, t h) (as-tells (strays-tells o 20 size) (λ x. inl (h, x)) (⊎-elim (λ x. x .1) (λ x. absurd (omega arith)))))
+    (λ e. by-cases (eqb n 17)
+    (λ f. let h = eqb-true n 17 f in simp (e, f, d h) (as-tells (strays-tells u 8 size) (λ x. inr (h, x)) (⊎-elim (λ x. absurd (omega arith)) (λ x. x .1))))
+    (λ f. simp (e, f) (as-tells (strays-tells size fixed size)
+    (⊎-elim (λ x. absurd (omega arith)) (λ x. absurd (omega arith)))
+    (⊎-elim (λ x. absurd (eqb-false n 6 e (x .0))) (λ x. absurd (eqb-false n 17 f (x .0)))))))
 
 module _ (p : List ℕ) where
   four-tells : Tells (four p) (versionOf p ≡ 4)
@@ -134,9 +143,13 @@ module _ (p : List ℕ) where
         let size = declaredEnd p - startOf p in
         next (listed-tells (kind p (o .1 .0)), refl) λ i.
         next (rw (carried-length k) (short-tells (kind p (o .1 .0)) size i), refl) λ j.
+        let plan = planOf (rowIn p) in
+        let row = covered (rowIn p) i in
+        let line = row-lined (familyOf p) (protocolOf p) plan row in
+        let long = ltb-false size (plan .fixed) (rw (carried-length k) at j) in
         next (
-          rw (misfits-at p k (planOf (rowIn p)) (covered (rowIn p) i) (ltb-false size (planOf (rowIn p) .fixed) (rw (carried-length k) at j)))
-              (misfit-tells (protocolOf p) (byteAt p (startOf p + 12) / 16 * 4) size (wordAt p (startOf p + 4))),
+          rw (carried-length k, said-at p k plan row long)
+              (said-tells (protocolOf p) (byteAt p (startOf p + 12) / 16 * 4) (wordAt p (startOf p + 4)) size (plan .fixed) (λ e. line .tcp e .1) (λ e. line .udp e .1) long),
           refl,
         ) λ l.
         tt

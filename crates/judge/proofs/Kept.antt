@@ -10,14 +10,11 @@ use Rattle.verdicts.proofs.Rules.{first-append, first-same, clear-join}
 use Rattle.verdicts.proofs.Tests.{by-cases}
 use Rattle.wire.specs.Outer.{four, fragmentOf, fragmentRule, outerRules}
 use Rattle.wire.specs.Inner.{messageRules, silentOf, wholeRules}
-use Rattle.wire.proofs.Facts.{Facts, facts}
-use Rattle.wire.proofs.Same.{Same, four-same, outer-same, fragment-same, message-same}
+use Rattle.wire.proofs.Facts.{Facts}
+use Rattle.wire.proofs.Same.{SameLayout, four-same, fragment-same, message-same}
+use Rattle.wire.proofs.Held.{whole-facts}
 use Rattle.cover.specs.Sums.{headerSums, messageSums}
 use Rattle.judge.specs.Judge.{sumRules, judgeRules, judgeOf}
-use Rattle.judge.proofs.Accepts.{shaped}
-
-pub whole-facts : (p : List ℕ) → clear (wholeRules p) → Facts p
-whole-facts p w = let s = shaped p w in facts p (s .outer) (s .inner)
 
 pub record Accepted (p : List ℕ) : Type 0 where
   pub whole : clear (wholeRules p)
@@ -44,7 +41,7 @@ pub record Heard (p q : List ℕ) : Type 0 where
   pub silent : silentOf q ≡ silentOf p
   pub sums : (silentOf p && four p) ≡ false → messageSums q ≡ messageSums p
 
-module _ {p q : List ℕ} (s : Same p q) (h : headerSums q ≡ headerSums p) (m : clear (wholeRules p) → Heard p q) where
+module _ {p q : List ℕ} (s : SameLayout p q) (h : headerSums q ≡ headerSums p) (m : clear (wholeRules p) → Heard p q) where
   sum-kept : clear (wholeRules p) → first (sumRules q) self Good ≡ first (sumRules p) self Good
   unfolding sumRules
   sum-kept w =
@@ -58,6 +55,6 @@ module _ {p q : List ℕ} (s : Same p q) (h : headerSums q ≡ headerSums p) (m 
   unfolding wholeRules
   judge-kept =
       judge-as q
-      ∙ rw (outer-same (s .header) (s .long), h, fragment-same (s .header), message-same s)
+      ∙ rw (s .outer, h, fragment-same (s .header), message-same s)
       (first-same (outerRules p) self _ _ (λ c. first-same (middle p) self _ _ (λ d. sum-kept (clear-join (outerRules p) (fragmentRule p ++ messageRules p) c (d .1)))))
       ∙ sym (judge-as p)

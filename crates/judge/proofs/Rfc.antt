@@ -49,12 +49,14 @@ module _ (p : List ℕ) (b : Bytes p) (s : Shaped p) where
   with-pseudo : protocolOf p ≢ 1 → pseudo p ≡ true
   with-pseudo n = by-cases (pseudo p) (λ t. t) (λ t. absurd (n (known .plain t)))
 
+  not-udp : protocolOf p ≢ 17 → udp p ≡ false
+  not-udp n = ne-eqb (protocolOf p) 17 n
+
   -- a message that isn't UDP's, and one that is
   plain : (block : List ℕ) → protocolOf p ≢ 17 → coveredOf p ≡ block → Right block ↔ Tests p
   plain block n e =
       let r = rightly p b known block e in
-      let u : udp p ≡ false = ne-eqb (protocolOf p) 17 n in
-      (λ h. (silent-at (same-self p) known ∙ simp u, r .0 h), λ h. r .1 (h .1))
+      (λ h. (silent-at (same-self p) known ∙ simp (not-udp n), r .0 h), λ h. r .1 (h .1))
 
   summing : (block : List ℕ) (at : ℕ) → protocolOf p ≡ 17 → at ≡ startOf p + 6 → coveredOf p ≡ block
       → ((wordAt p at ≢ 0) × Right block) ↔ Tests p
@@ -80,8 +82,8 @@ module _ (p : List ℕ) (b : Bytes p) (s : Shaped p) where
       let f : four p ≡ true = eq-eqb (versionOf p) 4 v in
       let n = protocol4 p f in
       choose
-      (λ e. plain (data4 p) (λ h. omega arith) (plain4 p f known (icmp-plain f (n ∙ e))))
-      (λ e. plain _ (λ h. omega arith) (covered4 p f known (with-pseudo (λ h. omega arith)) 6 (wordAt p 2 - ihl p) (n ∙ e) (length4 p f)))
+      (λ e. plain (data4 p) (λ h. omega arith) (plain4 p f known (icmp-plain f (n ∙ e)) (not-udp (λ h. omega arith))))
+      (λ e. plain _ (λ h. omega arith) (covered4 p f known (with-pseudo (λ h. omega arith)) 6 (wordAt p 2 - ihl p) (n ∙ e) (length4 p f known (not-udp (λ h. omega arith)))))
       (λ e. summing _ (ihl p + 6) (n ∙ e) (ap (λ x. x + 6) (sym (start4 p f)))
       (covered4 p f known (with-pseudo (λ h. omega arith)) 17 (wordAt p (ihl p + 4)) (n ∙ e) (own-length (n ∙ e) ∙ ap (λ x. wordAt p (x + 4)) (start4 p f))))
       (⊎-elim (λ h. rw n at (h .1)) (λ h. absurd (omega arith)) lined)
@@ -92,8 +94,8 @@ module _ (p : List ℕ) (b : Bytes p) (s : Shaped p) where
       let n = protocol6 p f in
       let size : wordAt p 4 ≤ 65535 = omega (arith, b 4, b 5) in
       choose
-      (λ e. plain _ (λ h. omega arith) (covered6 p f known (with-pseudo (λ h. omega arith)) 58 (wordAt p 4) size (n ∙ e) (length6 p f)))
-      (λ e. plain _ (λ h. omega arith) (covered6 p f known (with-pseudo (λ h. omega arith)) 6 (wordAt p 4) size (n ∙ e) (length6 p f)))
+      (λ e. plain _ (λ h. omega arith) (covered6 p f known (with-pseudo (λ h. omega arith)) 58 (wordAt p 4) size (n ∙ e) (length6 p f known (not-udp (λ h. omega arith)))))
+      (λ e. plain _ (λ h. omega arith) (covered6 p f known (with-pseudo (λ h. omega arith)) 6 (wordAt p 4) size (n ∙ e) (length6 p f known (not-udp (λ h. omega arith)))))
       (λ e. summing _ 46 (n ∙ e) (ap (λ x. x + 6) (sym (start6 p f)))
       (covered6 p f known (with-pseudo (λ h. omega arith)) 17 (wordAt p 44) (omega (arith, b 44, b 45)) (n ∙ e) (own-length (n ∙ e) ∙ ap (λ x. wordAt p (x + 4)) (start6 p f))))
       (⊎-elim (λ h. absurd (omega arith)) (λ h. rw n at (turn (h .1))) lined)

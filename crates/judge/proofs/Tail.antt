@@ -1,105 +1,61 @@
--- The tail is neither judged nor read: packets that agree up to the declared end have the same verdict.
-use mathlib.Core.Path.{_≡_, sym, ap, _∙_}
-use mathlib.Core.Logic.{⊎-elim}
-use Prim.Native.Nat.{ℕ, _+_, _-_, _<_, _≤_}
+-- The tail is neither judged nor read: packets that agree up to it have the same verdict.
+use mathlib.Core.Path.{_≡_, ap, _∙_}
+use Prim.Native.Nat.{ℕ, _<_, _≤_}
 use native.Mathlib.Omega.{arith}
 use mathlib.Core.List.{List, _++_}
 use lib.ListN.{length, length-append, List·getD-append}
-use borrow.Author.Tests.{le-ltb, ne-eqb}
-use Rattle.verdicts.specs.Rules.{Rule, verdictBy, clear}
-use Rattle.verdicts.specs.declared.Verdict.the-variants.{Good}
-use Rattle.verdicts.proofs.Tests.{by-cases}
-use Rattle.verdicts.proofs.Rules.{first-append, clear-first}
-use Rattle.verdicts.proofs.Telling.{next}
+use Rattle.verdicts.specs.Rules.{clear}
 use Rattle.wire.specs.Bytes.{byteAt, part}
-use Rattle.wire.specs.Outer.{four, leastOf, headerEnd, declaredEnd, addressesAt, addressesLength, outerRules, fragmentRule}
-use Rattle.wire.specs.Inner.{startOf, carriedOf, endOf, messageBytes, silentOf, messageRules, headerBytes, addressesOf}
-use Rattle.wire.proofs.Parts.{part-same}
-use Rattle.wire.proofs.Facts.{OuterFacts, outer-facts, begins}
-use Rattle.wire.proofs.Same.{SameHeader, four-same, family-same, header-end-same, declared-same, protocol-same, fragment-same, start-same}
+use Rattle.wire.specs.Outer.{headerEnd, declaredEnd, addressesAt, addressesLength, outerRules}
+use Rattle.wire.specs.Inner.{startOf, endOf, lengthOf, messageBytes, silentOf, wholeRules, tailAt, headerBytes, addressesOf}
+use Rattle.wire.proofs.Facts.{Facts, outer-facts}
+use Rattle.wire.proofs.Same.{SameLayout, four-same, family-same, header-end-same, protocol-same, start-same, end-same}
+use Rattle.wire.proofs.Held.{clear-carries, whole-facts}
+use Rattle.wire.proofs.Tails.{tail-end, tail-order, before-tail, part-before}
 use Rattle.cover.specs.Sums.{headerTotal, messageTotal, headerSums, messageSums}
-use Rattle.judge.specs.Judge.{headerSumRule, sumRules, judgeRules, judgeOf}
+use Rattle.judge.specs.Judge.{judgeOf}
+use Rattle.judge.proofs.Kept.{Heard, judge-kept}
 
--- the rules behind those of the outer shape
-abbrev rest : List ℕ → List Rule
-rest p = headerSumRule p ++ (fragmentRule p ++ (messageRules p ++ sumRules p))
-
-judge-rest : (p : List ℕ) → clear (outerRules p) → judgeOf p ≡ verdictBy (rest p)
-unfolding judgeOf judgeRules
-judge-rest p c = first-append (outerRules p) (rest p) (λ v. v) Good ∙ clear-first (outerRules p) (λ v. v) (verdictBy (rest p)) c
-
-module _ (p q : List ℕ) (c : clear (outerRules p)) (long : declaredEnd p ≤ length q) (same : (i : ℕ) → i < declaredEnd p → byteAt q i ≡ byteAt p i) where
-  known : OuterFacts p
-  known = outer-facts p c
-
-  header : SameHeader p q
-  header =
-      let k = known in
-      record { reads = λ i r. same i (⊎-elim (λ h. omega arith) (λ h. ⊎-elim (λ e. omega arith) (λ e. omega arith) (h .1)) r) }
-
-  byte : (i : ℕ) → i < 7 → byteAt q i ≡ byteAt p i
-  byte i h = let k = known in same i (omega arith)
-
-  outer-clear : clear (outerRules q)
-  unfolding outerRules
-  outer-clear =
-      let k = known in
-      let least : leastOf p ≤ headerEnd p = by-cases (four p) (λ f. simp f (k .least)) (λ f. simp f (let e = k .six f in omega arith)) in
-      let few : leastOf q ≤ length q = rw (four-same header) (omega arith) in
-      next (ne-eqb (length q) 0 (λ e. omega arith))
-      (next (rw (byte 0 (omega arith)) (c .1 .0))
-      (next (le-ltb (length q) (leastOf q) few)
-      (next (rw (byte 0 (omega arith)) (c .1 .1 .1 .0))
-      (next (rw (byte 0 (omega arith), byte 2 (omega arith), byte 3 (omega arith)) (c .1 .1 .1 .1 .0))
-      (next (le-ltb (length q) (declaredEnd q) (omega (arith, declared-same header))) tt)))))
-
-  -- ---- what the rules behind the outer ones look at
-  part-kept : (a n : ℕ) → a + n ≤ declaredEnd p → part q a n ≡ part p a n
-  part-kept a n h = let k = known in part-same p q a n (omega arith) (omega arith) (λ i x y. same i (omega arith))
+module _ (p q : List ℕ) (c : clear (outerRules p)) (long : declaredEnd p ≤ length q) (same : (i : ℕ) → i < tailAt p → byteAt q i ≡ byteAt p i) where
+  like : SameLayout p q
+  like = before-tail p q c long same
 
   header-kept : headerSums q ≡ headerSums p
   unfolding headerSums headerTotal
   header-kept =
-      let k = known in
-      let e : headerBytes q ≡ headerBytes p = ap (part q 0) (header-end-same header) ∙ part-kept 0 (headerEnd p) (omega arith) in
-      rw (four-same header, e)
+      let o = tail-order (outer-facts p c) in
+      let e : headerBytes q ≡ headerBytes p = ap (part q 0) (header-end-same (like .header)) ∙ part-before p q c long same 0 (headerEnd p) (omega arith) in
+      rw (four-same (like .header), e)
 
-  rules-kept : messageRules q ≡ messageRules p
-  unfolding messageRules carriedOf
-  rules-kept =
-      let k = known in
-      let b = begins k in
-      rw (family-same header, protocol-same header, start-same header, declared-same header, part-kept (startOf p) (declaredEnd p - startOf p) (omega arith))
+  -- what the message's rules look at, where there is a message
+  module _ (k : Facts p) (ends : tailAt p ≡ endOf p) where
+    bytes-kept : messageBytes q ≡ messageBytes p
+    bytes-kept = rw (start-same (like .header), end-same like) (part-before p q c long same (startOf p) (lengthOf p) (omega arith))
 
-  bytes-kept : messageBytes q ≡ messageBytes p
-  unfolding endOf
-  bytes-kept =
-      let k = known in
-      let b = begins k in
-      rw (start-same header, declared-same header) (part-kept (startOf p) (declaredEnd p - startOf p) (omega arith))
+    addresses-kept : addressesOf q ≡ addressesOf p
+    addresses-kept = rw (four-same (like .header)) (part-before p q c long same (addressesAt p) (addressesLength p) (omega arith))
 
-  addresses-kept : addressesOf q ≡ addressesOf p
-  addresses-kept = let k = known in rw (four-same header) (part-kept (addressesAt p) (addressesLength p) (omega arith))
+    silent-kept : silentOf q ≡ silentOf p
+    unfolding silentOf
+    silent-kept = rw (family-same (like .header), protocol-same (like .header), bytes-kept)
 
-  silent-kept : silentOf q ≡ silentOf p
-  unfolding silentOf
-  silent-kept = rw (family-same header, protocol-same header, bytes-kept)
+    sums-kept : messageSums q ≡ messageSums p
+    unfolding messageSums messageTotal
+    sums-kept = rw (family-same (like .header), protocol-same (like .header), addresses-kept, bytes-kept)
 
-  sums-kept : messageSums q ≡ messageSums p
-  unfolding messageSums messageTotal
-  sums-kept = rw (family-same header, protocol-same header, addresses-kept, bytes-kept)
+  heard : clear (wholeRules p) → Heard p q
+  heard w =
+      let k = whole-facts p w in
+      let e = tail-end p (clear-carries p w) in
+      record { silent = silent-kept k e; sums = λ u. sums-kept k e }
 
-  rest-kept : rest q ≡ rest p
-  unfolding sumRules
-  rest-kept = rw (header-kept, fragment-same header, rules-kept, silent-kept, four-same header, sums-kept)
-
--- q has at least the bytes that p declares, and the same ones
-pub tail-unread : (p q : List ℕ) → clear (outerRules p) → declaredEnd p ≤ length q → ((i : ℕ) → i < declaredEnd p → byteAt q i ≡ byteAt p i) → judgeOf q ≡ judgeOf p
-tail-unread p q c long same =
-    judge-rest q (outer-clear p q c long same) ∙ ap verdictBy (rest-kept p q c long same) ∙ sym (judge-rest p c)
+-- q has at least the bytes that p declares, and before p's tail the same ones
+pub tail-unread : (p q : List ℕ) → clear (outerRules p) → declaredEnd p ≤ length q → ((i : ℕ) → i < tailAt p → byteAt q i ≡ byteAt p i) → judgeOf q ≡ judgeOf p
+tail-unread p q c long same = judge-kept (like p q c long same) (header-kept p q c long same) (heard p q c long same)
 
 -- so bytes behind a packet change nothing
 pub tail-added : (p tail : List ℕ) → clear (outerRules p) → judgeOf (p ++ tail) ≡ judgeOf p
 tail-added p tail c =
     let k = outer-facts p c in
+    let o = tail-order k in
     tail-unread p (p ++ tail) c (omega (arith, length-append p tail)) (λ i h. List·getD-append p tail 0 i (omega arith))

@@ -37,15 +37,16 @@ headerSumCase p = (((versionOf p ≡ 4) × (¬ Pass (headerBytes p))) leads Head
 abbrev pub fragmentCase : List ℕ → List Case
 fragmentCase p = (((versionOf p ≡ 4) × ((wordAt p 6 / 8192 % 2 ≡ 1) ⊎ (wordAt p 6 % 8192 ≢ 0))) leads Fragment) ∷ []
 
--- protocol; message shorter than its fixed header; TCP or UDP length
+-- protocol; message shorter than its fixed header; TCP's data offset under 5 words or past the message, UDP's length under 8 or past it
 abbrev pub messageCases : List ℕ → List Case
 messageCases p =
     let n = protocolOf p in
     let size = declaredEnd p - startOf p in
     let offset = byteAt p (startOf p + 12) / 16 * 4 in
+    let datagram = wordAt p (startOf p + 4) in
     ((¬ Listed (versionOf p) n) leads Uncovered)
     ∷ (((((n ≡ 1) ⊎ (n ≡ 17)) × (size < 8)) ⊎ ((n ≡ 6) × (size < 20)) ⊎ ((n ≡ 58) × (size < 4))) leads Shape)
-    ∷ ((((n ≡ 6) × ((offset < 20) ⊎ (size < offset))) ⊎ ((n ≡ 17) × (wordAt p (startOf p + 4) ≢ size))) leads Shape)
+    ∷ ((((n ≡ 6) × ((offset < 20) ⊎ (size < offset))) ⊎ ((n ≡ 17) × ((datagram < 8) ⊎ (size < datagram)))) leads Shape)
     ∷ []
 
 -- UDP zero in IPv6, in IPv4

@@ -1,5 +1,5 @@
 -- Good, unsummed and the places of the fields in the RFCs' own words and numbers. Of our own rules only those of the shape
--- are cited, as "nothing refuses it"; what is said of fields and bodies is said of the places that mender and edits write at.
+-- are cited, as "nothing refuses it"; what is said of fields, bodies and ends is said of the places that mender and edits go by.
 use Prim.Native.Nat.{ℕ, _+_, _-_, _*_, _/_, _%_}
 use mathlib.Core.Path.{_≡_}
 use mathlib.Core.Logic.{_⊎_, _≢_}
@@ -8,7 +8,7 @@ use mathlib.Core.Bool.{Bool, true, false}
 use Rattle.verdicts.specs.Rules.{clear}
 use Rattle.wire.specs.Bytes.{byteAt, wordAt, part}
 use Rattle.wire.specs.Outer.{headerField}
-use Rattle.wire.specs.Inner.{wholeRules, fieldAt, bodyOf, pseudo}
+use Rattle.wire.specs.Inner.{wholeRules, fieldAt, bodyOf, endOf, pseudo}
 
 -- RFC 1071: one's complement addition; a carry out of the top is added in at the bottom
 infixl 60 _⊞_
@@ -36,6 +36,13 @@ data4 p = part p (ihl p) (wordAt p 2 - ihl p)
 abbrev pub data6 : List ℕ → List ℕ
 data6 p = part p 40 (wordAt p 4)
 
+-- RFC 768: the length in octets of this user datagram, its header included, stands in its bytes 4 and 5
+abbrev pub datagramLength : List ℕ → ℕ → ℕ
+datagramLength p first = wordAt p (first + 4)
+
+abbrev pub datagram : List ℕ → ℕ → List ℕ
+datagram p first = part p first (datagramLength p first)
+
 -- RFC 768, RFC 9293: source, destination, zero, protocol, length
 abbrev pub pseudo4 : List ℕ → ℕ → ℕ → List ℕ
 pseudo4 p protocol size = part p 12 4 ++ (part p 16 4 ++ (0 ∷ protocol ∷ size / 256 ∷ size % 256 ∷ []))
@@ -49,19 +56,19 @@ pseudo6 p next size =
 abbrev pub Four : List ℕ → Type 0
 Four p = (byteAt p 0 / 16 ≡ 4) × Right (part p 0 (ihl p))
 
--- RFC 792: ICMP's message alone; RFC 9293: TCP's segment; RFC 768: UDP's datagram, with its own length and a sum
+-- RFC 792: ICMP's message alone; RFC 9293: TCP's segment; RFC 768: UDP's datagram, with its own length, and a sum was made
 abbrev pub Right4 : List ℕ → Type 0
 Right4 p =
     ((byteAt p 9 ≡ 1) × Right (data4 p))
     ⊎ ((byteAt p 9 ≡ 6) × Right (pseudo4 p 6 (wordAt p 2 - ihl p) ++ data4 p))
-    ⊎ ((byteAt p 9 ≡ 17) × (wordAt p (ihl p + 6) ≢ 0) × Right (pseudo4 p 17 (wordAt p (ihl p + 4)) ++ data4 p))
+    ⊎ ((byteAt p 9 ≡ 17) × (wordAt p (ihl p + 6) ≢ 0) × Right (pseudo4 p 17 (datagramLength p (ihl p)) ++ datagram p (ihl p)))
 
 -- the same over IPv6; RFC 4443: ICMPv6's message
 abbrev pub Right6 : List ℕ → Type 0
 Right6 p =
     ((byteAt p 6 ≡ 58) × Right (pseudo6 p 58 (wordAt p 4) ++ data6 p))
     ⊎ ((byteAt p 6 ≡ 6) × Right (pseudo6 p 6 (wordAt p 4) ++ data6 p))
-    ⊎ ((byteAt p 6 ≡ 17) × (wordAt p 46 ≢ 0) × Right (pseudo6 p 17 (wordAt p 44) ++ data6 p))
+    ⊎ ((byteAt p 6 ≡ 17) × (wordAt p 46 ≢ 0) × Right (pseudo6 p 17 (datagramLength p 40) ++ datagram p 40))
 
 -- nothing refuses the packet's shape, and all its sums are right
 abbrev pub goodByRfc : List ℕ → Type 0
@@ -71,29 +78,32 @@ goodByRfc p = clear (wholeRules p) × ((Four p × Right4 p) ⊎ ((byteAt p 0 / 1
 abbrev pub unsummedByRfc : List ℕ → Type 0
 unsummedByRfc p = clear (wholeRules p) × Four p × (byteAt p 9 ≡ 17) × (wordAt p (ihl p + 6) ≡ 0)
 
--- ---- where the fields stand
--- the checksum of the message that begins at `first` stands `place` bytes behind that, its body `header` bytes, and a
--- pseudo-header is summed or none
-abbrev pub Stands : List ℕ → ℕ → ℕ → ℕ → Bool → Type 0
-Stands p first place header summed = (fieldAt p ≡ first + place) × (bodyOf p ≡ first + header) × (pseudo p ≡ summed)
+-- ---- where the fields stand, and where messages begin and end
+-- the checksum of the message that begins at `first` stands `place` bytes behind that, its body `header` bytes and its end `size`,
+-- and a pseudo-header is summed or none
+abbrev pub Stands : List ℕ → ℕ → ℕ → ℕ → ℕ → Bool → Type 0
+Stands p first place header size summed =
+    (fieldAt p ≡ first + place) × (bodyOf p ≡ first + header) × (endOf p ≡ first + size) × (pseudo p ≡ summed)
 
 -- RFC 9293: TCP's header has as many 4-byte words as the high half of its byte 12 says
 abbrev pub tcpHeader : List ℕ → ℕ → ℕ
 tcpHeader p first = byteAt p (first + 12) / 16 * 4
 
--- RFC 792: ICMP's at 2, in a header of 8 bytes (house); RFC 9293: TCP's at 16; RFC 768: UDP's at 6, in a header of 8
+-- RFC 792: ICMP's at 2, in a header of 8 bytes (house); RFC 9293: TCP's at 16; both with what the IP header leaves of the total
+-- length; RFC 768: UDP's at 6, in a header of 8 and with the length that it says
 abbrev pub Fields4 : List ℕ → Type 0
 Fields4 p =
-    ((byteAt p 9 ≡ 1) × Stands p (ihl p) 2 8 false)
-    ⊎ ((byteAt p 9 ≡ 6) × Stands p (ihl p) 16 (tcpHeader p (ihl p)) true)
-    ⊎ ((byteAt p 9 ≡ 17) × Stands p (ihl p) 6 8 true)
+    let size = wordAt p 2 - ihl p in
+    ((byteAt p 9 ≡ 1) × Stands p (ihl p) 2 8 size false)
+    ⊎ ((byteAt p 9 ≡ 6) × Stands p (ihl p) 16 (tcpHeader p (ihl p)) size true)
+    ⊎ ((byteAt p 9 ≡ 17) × Stands p (ihl p) 6 8 (datagramLength p (ihl p)) true)
 
--- RFC 4443: ICMPv6's at 2, in a header of 4
+-- RFC 4443: ICMPv6's at 2, in a header of 4; it and TCP's segment have the payload's length
 abbrev pub Fields6 : List ℕ → Type 0
 Fields6 p =
-    ((byteAt p 6 ≡ 58) × Stands p 40 2 4 true)
-    ⊎ ((byteAt p 6 ≡ 6) × Stands p 40 16 (tcpHeader p 40) true)
-    ⊎ ((byteAt p 6 ≡ 17) × Stands p 40 6 8 true)
+    ((byteAt p 6 ≡ 58) × Stands p 40 2 4 (wordAt p 4) true)
+    ⊎ ((byteAt p 6 ≡ 6) × Stands p 40 16 (tcpHeader p 40) (wordAt p 4) true)
+    ⊎ ((byteAt p 6 ≡ 17) × Stands p 40 6 8 (datagramLength p 40) true)
 
 -- RFC 791: the header's own at 10
 abbrev pub fieldsByRfc : List ℕ → Type 0

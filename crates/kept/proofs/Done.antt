@@ -17,10 +17,11 @@ use Rattle.wire.specs.Inner.{fieldAt, silentOf, udp, wholeRules}
 use Rattle.wire.proofs.Facts.{OuterFacts, Facts}
 use Rattle.wire.proofs.Writes.{word-small, word-wrote}
 use Rattle.wire.proofs.Same.{Same, silent-at, field-same, four-same, same-self}
+use Rattle.wire.proofs.Held.{whole-facts}
 use Rattle.cover.specs.Sums.{headerTotal, messageTotal, headerSums, messageSums}
 use Rattle.cover.proofs.Blocks.{header-word, message-field, header-some}
 use Rattle.judge.proofs.Answers.{sums4}
-use Rattle.judge.proofs.Kept.{Heard, whole-facts}
+use Rattle.judge.proofs.Kept.{Heard}
 use Rattle.mend.specs.Fresh.{sent, freshHeader, header, message, Fresh}
 use Rattle.mend.proofs.Numbers.{sent-some, sent-mod}
 use Rattle.mend.proofs.Fresh.{writeH, writeF, sameH, sameF, asideH, asideF, freshF, header-right, message-right, header-fresh, silent-carry, message-fresh}

@@ -21,11 +21,11 @@ use Rattle.wire.specs.Inner.{startOf, endOf, lengthOf, fieldAt, bodyOf, wholeRu
 use Rattle.wire.proofs.Parts.{part-length, part-byte}
 use Rattle.wire.proofs.Facts.{OuterFacts, Facts, outer-facts}
 use Rattle.wire.proofs.Writes.{put-wrote, unwritten}
+use Rattle.wire.proofs.Held.{whole-facts}
 use Rattle.judge.specs.Judge.{missingRule}
 use Rattle.judge.specs.Cases.{outerCases, wholeCases, missingCase}
 use Rattle.judge.proofs.Accepts.{shaped}
 use Rattle.judge.proofs.Exactly.{outer-told, whole-told, missing-told}
-use Rattle.judge.proofs.Kept.{whole-facts}
 use Rattle.kept.specs.Edits.{editRules, lifetimeRules, addressRules, allZero, blank, stretchRules}
 use Rattle.kept.specs.Runs.{Edit, lifetime, address, stretch, apply, rulesOf}
 use Rattle.kept.specs.Cases.{editCases, lifetimeCases, addressCases, Zeros, stretchCases, casesOf}

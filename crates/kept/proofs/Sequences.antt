@@ -10,12 +10,13 @@ use Rattle.verdicts.specs.declared.Verdict.{Verdict}
 use Rattle.verdicts.specs.declared.Verdict.the-variants.{Good}
 use Rattle.verdicts.proofs.Rules.{first-map, first-either}
 use Rattle.wire.specs.Bytes.{byteAt, put, Bytes}
+use Rattle.wire.specs.Inner.{tailAt}
 use Rattle.wire.proofs.Writes.{put-wrote}
 use Rattle.judge.specs.Judge.{judgeOf}
 use Rattle.mend.specs.Fresh.{Sum, Fresh}
 use Rattle.mend.specs.Mend.{mendOf, Outside}
 use Rattle.kept.specs.Runs.{Fit, Fits, Edit, apply, run, rulesOf, placeOf, newOf, written, bare, Untouched}
-use Rattle.kept.proofs.Single.{made, apply-as, accepted-clear, kept, new-stands, byte-stays, still}
+use Rattle.kept.proofs.Single.{made, apply-as, accepted-clear, kept, new-stands, byte-stays, tail-stays, still}
 
 -- ---- the verdict
 -- the verdict after is the verdict before
@@ -45,6 +46,13 @@ bytes-stay [] p i f b o u = refl
 bytes-stay (e ∷ es) p i f b o u =
     let s = still e p (f .0) b in
     bytes-stay es (apply e p .1) i (f .1) (s .bytes) (s .outside i o) (u .1) ∙ byte-stays e p i (f .0) b o (u .0)
+
+-- nothing that stands in the tail changes
+pub tail-kept : (es : List Edit) (p : List ℕ) (i : ℕ) → Fits es → Bytes p → tailAt p ≤ i → byteAt (run es p) i ≡ byteAt p i
+tail-kept [] p i f b h = refl
+tail-kept (e ∷ es) p i f b h =
+    let s = still e p (f .0) b in
+    tail-kept es (apply e p .1) i (f .1) (s .bytes) (rw (s .tail) h) ∙ tail-stays e p i (f .0) b h
 
 -- an accepted edit's new bytes stand in place until a later one overwrites them
 pub new-stays : (e : Edit) (es : List Edit) (p : List ℕ) → Fits (e ∷ es) → Bytes p → apply e p .0 ≡ Good

@@ -1,11 +1,12 @@
 -- One edit: that a refused one changes nothing, where its new bytes stand, and what it keeps.
 use mathlib.Core.Path.{_≡_, refl, sym, ap, ap₂, _∙_}
 use mathlib.Core.Logic.{_⊎_, ⊎-elim}
-use Prim.Native.Nat.{ℕ, _+_, _<_, _≤_}
+use Prim.Native.Nat.{ℕ, _+_, _-_, _<_, _≤_}
 use native.Mathlib.Omega.{arith}
 use mathlib.Core.List.{List}
 use mathlib.Core.Bool.{Bool, not, _&&_}
 use lib.ListN.{length}
+use borrow.Author.Tests.{ltb-false}
 use Rattle.verdicts.specs.Rules.{first, clear}
 use Rattle.verdicts.specs.declared.Verdict.{Verdict}
 use Rattle.verdicts.specs.declared.Verdict.the-variants.{Good}
@@ -13,19 +14,20 @@ use Rattle.verdicts.proofs.Tests.{by-cases}
 use Rattle.verdicts.proofs.Rules.{clear-both}
 use Rattle.verdicts.proofs.Calls.{Refusals, call-refused, call-clear, call-done, call-either}
 use Rattle.wire.specs.Bytes.{byteAt, Bytes}
-use Rattle.wire.specs.Outer.{outerRules}
+use Rattle.wire.specs.Outer.{four, outerRules}
 use Rattle.wire.specs.Messages.{shapeRules}
-use Rattle.wire.specs.Inner.{bodyOf, messageRules, wholeRules, carries}
+use Rattle.wire.specs.Inner.{bodyOf, endOf, messageRules, wholeRules, carries, tailAt}
 use Rattle.wire.proofs.Writes.{put-wrote}
-use Rattle.wire.proofs.Facts.{outer-facts}
-use Rattle.wire.proofs.Same.{four-same}
-use Rattle.wire.proofs.Held.{carries-clear, carries-same}
+use Rattle.wire.proofs.Facts.{OuterFacts, outer-facts}
+use Rattle.wire.proofs.Same.{same-layout, four-same}
+use Rattle.wire.proofs.Held.{carries-clear, clear-carries, carries-same}
+use Rattle.wire.proofs.Tails.{tail-end, tail-order, tail-same}
 use Rattle.judge.specs.Judge.{judgeOf}
 use Rattle.judge.proofs.Kept.{judge-kept}
 use Rattle.mend.specs.Fresh.{Sum, header, message, used, Fresh}
 use Rattle.mend.specs.Mend.{mendOf, Outside}
 use Rattle.mend.proofs.Fresh.{used-whole, used-sums, placed-same}
-use Rattle.mend.proofs.Mending.{mend-fresh}
+use Rattle.mend.proofs.Mending.{mend-fresh, tail-outside}
 use Rattle.kept.specs.Edits.{editRules, lifetimeRules, lifetimeLeft, lifetimeOf, sideAt, addressRules, addressLeft, addressOf, stretchRules, stretchLeft, stretchOf}
 use Rattle.kept.specs.Runs.{Fit, Edit, lifetime, address, stretch, apply, rulesOf, placeOf, newOf}
 use Rattle.kept.specs.Fields.{updates, Right}
@@ -101,6 +103,35 @@ byte-stays e p i f b o u =
     let w = put-wrote p (placeOf e p) (newOf e p) (k .fits) in
     k .others i o ∙ ⊎-elim (λ l. w .below i l) (λ l. w .above i l) (u (ap (λ (z : Verdict × List ℕ). z .0) (accepted-done e p c))))
 
+-- ---- the tail
+-- an accepted edit writes before it
+before-tail : (e : Edit) (p : List ℕ) → clear (rulesOf e p) → OuterFacts p × (placeOf e p + length (newOf e p) ≤ tailAt p)
+before-tail lifetime p c =
+    let k = outer-facts p (clear-both (outerRules p) (lifetimeRules p) c .0) in
+    let o = tail-order k in
+    (k, by-cases (four p) (λ f. simp f (omega arith)) (λ f. simp f (omega arith)))
+before-tail (address side new) p c =
+    let d = clear-both (editRules p) (addressRules p side new) c in
+    let k = accepted p (d .0) .facts .outer in
+    let o = tail-order k in
+    let a = side-addressed p side new (d .1) in
+    (k, omega arith)
+before-tail (stretch place new) p c =
+    let d = clear-both (editRules p) (stretchRules p place new) c in
+    let a = accepted p (d .0) in
+    let k = a .facts in
+    let l = ltb-false (endOf p - bodyOf p) (place + length new) (d .1 .0) in
+    (k .outer, omega (arith, tail-end p (clear-carries p (a .whole))))
+
+-- so no byte of it changes
+pub tail-stays : (e : Edit) (p : List ℕ) (i : ℕ) → Fit e → Bytes p → tailAt p ≤ i → byteAt (apply e p .1) i ≡ byteAt p i
+tail-stays e p i f b h =
+    edit-either e p (λ q. byteAt q i ≡ byteAt p i) refl
+    (λ c.
+    let k = kept e p f b c in
+    let t = before-tail e p c in
+    k .others i (tail-outside p i (t .0) h) ∙ put-wrote p (placeOf e p) (newOf e p) (k .fits) .above i (omega arith))
+
 -- ---- what every edit keeps
 pub record Still (p q : List ℕ) : Type 0 where
   pub bytes : Bytes q
@@ -108,6 +139,7 @@ pub record Still (p q : List ℕ) : Type 0 where
   pub fresh : (s : Sum) → Fresh s p → Fresh s q
   pub mended : mendOf p .1 ≡ p → mendOf q .1 ≡ q
   pub long : length q ≡ length p
+  pub tail : tailAt q ≡ tailAt p
   pub outside : (i : ℕ) → Outside p i → Outside q i
   pub uses : (s : Sum) → used s q ≡ used s p
   pub right : (s : Sum) → Right s p → Right s q
@@ -116,7 +148,7 @@ module _ {h m : Bool} {p q : List ℕ} {at : ℕ} {new : List ℕ} (k : Kept h m
   pub kept-uses : (s : Sum) → used s q ≡ used s p
   kept-uses header = four-same (k .same .header)
   kept-uses message =
-      let e = carries-same (k .same) in
+      let e = carries-same (same-layout (k .same)) in
       by-cases (carries p)
       (λ c. ap₂ (λ c s. c && not s) e (ap₂ _&&_ (k .message (carries-clear p c) .heard .silent) (four-same (k .same .header))))
       (λ c. simp (e, c))
@@ -138,6 +170,7 @@ still e p f b =
       fresh = λ s h. h;
       mended = λ h. h;
       long = refl;
+      tail = refl;
       outside = λ i o. o;
       uses = λ s. refl;
       right = λ s r. r;
@@ -147,10 +180,11 @@ still e p f b =
     let s = k .same in
     record {
       bytes = k .bytes;
-      judged = judge-kept s (k .header .sums) (λ w. k .message w .heard);
+      judged = judge-kept (same-layout s) (k .header .sums) (λ w. k .message w .heard);
       fresh = kept-fresh k;
-      mended = λ h. mend-fresh (made e p) (k .bytes) .1 (λ c t. kept-fresh k t (mend-fresh p b .0 h (sym (carries-same s) ∙ c) t));
+      mended = λ h. mend-fresh (made e p) (k .bytes) .1 (λ c t. kept-fresh k t (mend-fresh p b .0 h (sym (carries-same (same-layout s)) ∙ c) t));
       long = s .long;
+      tail = tail-same (same-layout s);
       outside = λ i o t u. rw (placed-same (s .header) t) (o t (sym (kept-uses k t) ∙ u));
       uses = kept-uses k;
       right = kept-right k;

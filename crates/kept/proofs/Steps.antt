@@ -16,13 +16,13 @@ use Rattle.wire.specs.Bytes.{byteAt, wordAt, part, put, putWord, Bytes}
 use Rattle.wire.specs.Outer.{addressesAt, four, headerEnd, headerField, lifetimeAt}
 use Rattle.wire.specs.Inner.{fieldAt, silentOf, udp, wholeRules}
 use Rattle.wire.proofs.Facts.{OuterFacts, Facts, field-behind}
-use Rattle.wire.proofs.Held.{clear-carries}
+use Rattle.wire.proofs.Held.{clear-carries, whole-facts}
 use Rattle.wire.proofs.Writes.{Wrote, bytes-word, bytes-wrote, put-wrote, word-above, word-below}
 use Rattle.wire.proofs.Same.{Same, four-same, same-self, same-step, soft-header}
 use Rattle.cover.specs.Sums.{messageTotal, headerSums}
 use Rattle.cover.proofs.Blocks.{header-in, header-out, message-out}
 use Rattle.judge.specs.Judge.{missingRule}
-use Rattle.judge.proofs.Kept.{Accepted, accepted-whole, whole-facts}
+use Rattle.judge.proofs.Kept.{Accepted, accepted-whole}
 use Rattle.mend.specs.Fresh.{sent, header, message, used}
 use Rattle.mend.specs.Mend.{Outside}
 use Rattle.mend.proofs.Numbers.{sent-small}

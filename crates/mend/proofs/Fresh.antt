@@ -14,12 +14,11 @@ use Rattle.wire.specs.Outer.{four, headerField}
 use Rattle.wire.specs.Inner.{fieldAt, silentOf, udp, wholeRules, carries}
 use Rattle.wire.proofs.Facts.{OuterFacts, Facts}
 use Rattle.wire.proofs.Writes.{Wrote, put-wrote}
-use Rattle.wire.proofs.Same.{SameHeader, Same, field-same, four-same, same-self, same-step, silent-at, soft-header, soft-message, udp-same}
-use Rattle.wire.proofs.Held.{carries-clear, clear-carries, carries-same}
+use Rattle.wire.proofs.Same.{SameHeader, Same, same-layout, field-same, four-same, same-self, same-step, silent-at, soft-header, soft-message, udp-same}
+use Rattle.wire.proofs.Held.{carries-clear, clear-carries, carries-same, whole-facts}
 use Rattle.cover.specs.Sums.{headerTotal, messageTotal, headerSums, messageSums}
 use Rattle.cover.proofs.Blocks.{header-word, message-field}
 use Rattle.judge.proofs.Answers.{sums4, sums6}
-use Rattle.judge.proofs.Kept.{whole-facts}
 use Rattle.mend.specs.Mend.{mendedHeader}
 use Rattle.mend.specs.Fresh.{sent, freshHeader, freshMessage, Sum, header, message, placed, used, Fresh}
 use Rattle.mend.proofs.Numbers.{sent-passes}
@@ -99,7 +98,7 @@ module _ {p q r : List ℕ} (k : Facts p) (a : Same p q) (b : Same p r) where
   -- and so it is in use or not
   pub used-carry : wordAt r (fieldAt p) ≡ wordAt q (fieldAt p) → used message r ≡ used message q
   used-carry e =
-      ap₂ (λ c s. c && not s) (carries-same b ∙ sym (carries-same a))
+      ap₂ (λ c s. c && not s) (carries-same (same-layout b) ∙ sym (carries-same (same-layout a)))
       (ap₂ _&&_ (silent-carry e) (four-same (b .header) ∙ sym (four-same (a .header))))
 
   module _ (t : messageTotal r ≡ messageTotal q) (e : wordAt r (fieldAt p) ≡ wordAt q (fieldAt p)) where

@@ -15,10 +15,9 @@ use Rattle.wire.specs.Inner.{fieldAt, silentOf, udp, wholeRules}
 use Rattle.wire.proofs.Facts.{Facts}
 use Rattle.wire.proofs.Writes.{bytes-word, bytes-wrote, word-above, word-below, word-wrote}
 use Rattle.wire.proofs.Same.{silent-at, Same, field-same, four-same, same-self}
-use Rattle.wire.proofs.Held.{clear-carries}
+use Rattle.wire.proofs.Held.{clear-carries, whole-facts}
 use Rattle.cover.specs.Sums.{headerTotal, messageTotal}
 use Rattle.cover.proofs.Blocks.{header-out, header-word, message-out, message-field}
-use Rattle.judge.proofs.Kept.{whole-facts}
 use Rattle.mend.specs.Fresh.{sent, freshHeader, freshMessage, Sum, header, message, used, placed, freshOf, Fresh}
 use Rattle.mend.specs.Mend.{mendedHeader, mendedMessage, Outside}
 use Rattle.mend.proofs.Numbers.{sent-some, sent-small}

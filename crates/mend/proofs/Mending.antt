@@ -1,7 +1,7 @@
 -- The theorems of mending: what it answers, what it changes, what the judge says of it, and that a good packet stands.
 use mathlib.Core.Path.{_≡_, refl, sym, ap, _∙_}
 use mathlib.Core.Logic.{_↔_, _⊎_, inl, inr, ⊎-elim}
-use Prim.Native.Nat.{ℕ, suc, _+_, _/_, _%_, _<_}
+use Prim.Native.Nat.{ℕ, suc, _+_, _/_, _%_, _<_, _≤_}
 use native.Mathlib.Omega.{arith}
 use native.Mathlib.Decide.{ℕ-discrete, decLt}
 use native.Mathlib.Numerals.{add-one}
@@ -22,22 +22,31 @@ use Rattle.sums.specs.Fold.{passes}
 use Rattle.wire.specs.Bytes.{byteAt, wordAt, put, putWord, Bytes}
 use Rattle.wire.specs.Outer.{four, headerField, outerRules}
 use Rattle.wire.specs.Messages.{shapeRules}
-use Rattle.wire.specs.Inner.{fieldAt, messageRules, silentOf, udp, wholeRules, carries}
+use Rattle.wire.specs.Inner.{fieldAt, messageRules, silentOf, udp, wholeRules, carries, tailAt}
+use Rattle.wire.proofs.Facts.{OuterFacts}
 use Rattle.wire.proofs.Writes.{word-small}
-use Rattle.wire.proofs.Same.{silent-at, four-same, same-self, whole-same}
-use Rattle.wire.proofs.Held.{carries-clear, clear-carries}
+use Rattle.wire.proofs.Same.{same-layout, silent-at, four-same, same-self, whole-same}
+use Rattle.wire.proofs.Held.{carries-clear, clear-carries, whole-facts}
+use Rattle.wire.proofs.Tails.{tail-end, tail-order}
 use Rattle.cover.specs.Sums.{headerTotal, messageTotal, headerSums, messageSums}
 use Rattle.judge.specs.Judge.{judgeOf}
 use Rattle.judge.specs.Cases.{wholeCases}
 use Rattle.judge.proofs.Exactly.{whole-told}
 use Rattle.judge.proofs.Answers.{good, unsummed, sums4}
 use Rattle.judge.proofs.Accepts.{accepted, accepting, verdict-good, verdict-unsummed}
-use Rattle.judge.proofs.Kept.{whole-facts}
 use Rattle.mend.specs.Fresh.{sent, freshHeader, freshMessage, Sum, header, message, used, placed, Fresh}
 use Rattle.mend.specs.Mend.{mendedHeader, mendedMessage, mendOf, Outside, Full}
 use Rattle.mend.proofs.Numbers.{passing-fresh}
-use Rattle.mend.proofs.Fresh.{each, asideH, asideF, header-right, message-right}
+use Rattle.mend.proofs.Fresh.{each, used-whole, asideH, asideF, header-right, message-right}
 use Rattle.mend.proofs.Mended.{Mended, both-set}
+
+-- no byte of the tail is one of a sum field in use
+pub tail-outside : (p : List ℕ) (i : ℕ) → OuterFacts p → tailAt p ≤ i → Outside p i
+tail-outside p i k h header u = let o = tail-order k in inr (omega arith)
+tail-outside p i k h message u =
+    let c = used-whole p u in
+    let f = whole-facts p c in
+    inr (omega (arith, tail-end p (clear-carries p c)))
 
 -- ---- what it answers, and what it changes
 module _ (p : List ℕ) where
@@ -64,6 +73,13 @@ module _ (p : List ℕ) where
       call-either (wholeRules p) p (mendedMessage (mendedHeader p)) (λ q. length q ≡ length p) refl
       (λ c. both-set p c .same .long)
 
+  -- nor any byte of the tail
+  pub mend-tail : (i : ℕ) → tailAt p ≤ i → byteAt (mendOf p .1) i ≡ byteAt p i
+  unfolding mendOf
+  mend-tail i h =
+      call-either (wholeRules p) p (mendedMessage (mendedHeader p)) (λ q. byteAt q i ≡ byteAt p i) refl
+      (λ c. both-set p c .others i (tail-outside p i (whole-facts p c .outer) h))
+
   done : clear (wholeRules p) → mendOf p ≡ (Good, mendedMessage (mendedHeader p))
   unfolding mendOf
   done c = call-done (wholeRules p) p (mendedMessage (mendedHeader p)) c
@@ -89,7 +105,7 @@ pub mended-judged : (p : List ℕ) → mendOf p .0 ≡ Good → judgeOf (mendOf 
 mended-judged p g =
     let c = mended-clear p g in
     let m = mended p c in
-    fresh-judged (mendOf p .1) (rw (whole-same (m .same)) c) (m .fresh)
+    fresh-judged (mendOf p .1) (rw (whole-same (same-layout (m .same))) c) (m .fresh)
     (λ u. four-same (m .same .header) ∙ and-true (silentOf p) (four p) (sym (m .silent) ∙ u) .1)
     ∙ ap (λ b. if b then Unsummed else Good) (m .silent)
 
@@ -128,7 +144,7 @@ mended-twice p b =
     (λ c e.
     let m = both-set p c in
     let q = mendedMessage (mendedHeader p) in
-    done q (rw (whole-same (m .same)) c) ∙ ap (λ r. (Good, r)) (fresh-stands q (m .bytes b) (rw (whole-same (m .same)) c) (m .fresh)))
+    done q (rw (whole-same (same-layout (m .same))) c) ∙ ap (λ r. (Good, r)) (fresh-stands q (m .bytes b) (rw (whole-same (same-layout (m .same))) c) (m .fresh)))
     refl
 
 -- ---- a good packet

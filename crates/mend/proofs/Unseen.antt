@@ -12,7 +12,7 @@ use Rattle.sums.proofs.Unseen.{Apart, changed-passes}
 use Rattle.wire.specs.Bytes.{wordAt, put, putWord}
 use Rattle.wire.specs.Inner.{bodyOf, coveredOf, endOf, fieldAt, startOf}
 use Rattle.wire.proofs.Writes.{put-wrote, word-above, word-below}
-use Rattle.wire.proofs.Same.{Same, four-same, same-self, same-step, soft-message}
+use Rattle.wire.proofs.Same.{Same, same-layout, four-same, same-self, same-step, soft-message}
 use Rattle.cover.specs.Sums.{headerTotal, messageTotal, headerSums, messageSums}
 use Rattle.cover.proofs.Blocks.{header-out, message-word}
 use Rattle.judge.specs.Judge.{judgeOf}
@@ -32,7 +32,7 @@ good-message p g =
 sum-tells : {p q : List ℕ} → Accepted p → Same p q → headerTotal q ≡ headerTotal p → wordAt q (fieldAt p) ≡ wordAt p (fieldAt p)
     → messageSums q ≡ messageSums p → judgeOf q ≡ judgeOf p
 unfolding headerSums
-sum-tells {p} c s h e m = judge-kept s (rw (four-same (s .header), h)) (λ w. record { silent = silent-carry (c .facts) (same-self p) s e; sums = λ u. m })
+sum-tells {p} c s h e m = judge-kept (same-layout s) (rw (four-same (s .header), h)) (λ w. record { silent = silent-carry (c .facts) (same-self p) s e; sums = λ u. m })
 
 -- new bytes in the body of a good packet leave it good exactly when the covered block's total is not 0 and differs from the
 -- one before by a multiple of 65535

@@ -3,15 +3,15 @@ use mathlib.Core.Path.{_≡_}
 use Prim.Native.Nat.{ℕ, _+_, _-_, _*_, _/_, _%_, _<_, _≤_}
 use native.Mathlib.Omega.{arith}
 use mathlib.Core.List.{List}
-use mathlib.Core.Bool.{Bool, true, false, true≢false}
+use mathlib.Core.Bool.{true, false, true≢false}
 use lib.ListN.{length}
-use lib.Dec.{ltb}
-use borrow.Author.Tests.{ltb-false, eqb-true, ne-eqb, not-false}
+use lib.Dec.{ltb, eqb}
+use borrow.Author.Tests.{ltb-false, eqb-true}
 use Rattle.verdicts.specs.Rules.{clear}
 use Rattle.verdicts.proofs.Tests.{by-cases, or-false}
 use Rattle.wire.specs.Bytes.{byteAt, wordAt}
 use Rattle.wire.specs.Outer.{four, six, versionOf, header4Of, headerEnd, declaredEnd, familyOf, protocolOf, addressesAt, addressesLength, outerRules}
-use Rattle.wire.specs.Messages.{planIn, offsetIn, misfitOf, shapeRules}
+use Rattle.wire.specs.Messages.{planIn, saidIn, shapeRules}
 use Rattle.wire.specs.Inner.{startOf, carriedOf, endOf, lengthOf, messageRules, rowIn, bodyOf, tcp, udp, fieldAt, pseudo}
 use Rattle.wire.proofs.Parts.{part-length, part-byte, part-word}
 use Rattle.wire.proofs.Lines.{Lined, row-lined, covered}
@@ -72,9 +72,18 @@ module _ {p : List ℕ} (k : OuterFacts p) where
   unfolding carriedOf
   carried-word i h = part-word p (startOf p) (declaredEnd p - startOf p) i (omega arith)
 
--- the test of its lengths
-abbrev pub misfits : List ℕ → Bool
-misfits p = misfitOf (protocolOf p) (offsetIn (carriedOf p)) (length (carriedOf p)) (wordAt (carriedOf p) 4)
+-- what it says of its length
+pub not-tcp : (n : ℕ) → eqb n 17 ≡ true → eqb n 6 ≡ false
+not-tcp n u = rw (eqb-true n 17 u)
+
+module _ (n : ℕ) (m : List ℕ) where
+  pub said-tcp : eqb n 6 ≡ true → saidIn n m ≡ byteAt m 12 / 16 * 4
+  unfolding saidIn
+  said-tcp t = rw t
+
+  pub said-udp : eqb n 17 ≡ true → saidIn n m ≡ wordAt m 4
+  unfolding saidIn
+  said-udp u = rw (eqb-true n 17 u)
 
 pub record Facts (p : List ℕ) : Type 0 where
   pub outer : OuterFacts p
@@ -85,6 +94,7 @@ pub record Facts (p : List ℕ) : Type 0 where
   pub body : bodyOf p ≤ endOf p
   pub whole : endOf p ≤ declaredEnd p
   pub proto : 0 < protocolOf p
+  pub rest : udp p ≡ false → endOf p ≡ declaredEnd p
   pub tcp : tcp p ≡ true → (fieldAt p ≡ startOf p + 16) × (startOf p + 20 ≤ bodyOf p) × (bodyOf p ≡ startOf p + byteAt p (startOf p + 12) / 16 * 4)
   pub udp : udp p ≡ true → (fieldAt p ≡ startOf p + 6) × (startOf p + 8 ≤ bodyOf p) × (wordAt p (startOf p + 4) ≡ lengthOf p)
   pub plain : pseudo p ≡ false → protocolOf p ≡ 1
@@ -98,18 +108,14 @@ module _ (p : List ℕ) (s : clear (outerRules p)) (m : clear (messageRules p)) 
   unfolding messageRules shapeRules
   fixed = ltb-false (length (carriedOf p)) (planIn (familyOf p) (protocolOf p) .fixed) (m .1 .0)
 
-  offset : tcp p ≡ true → (20 ≤ offsetIn (carriedOf p)) × (offsetIn (carriedOf p) ≤ length (carriedOf p))
+  said : (planIn (familyOf p) (protocolOf p) .fixed ≤ saidIn (protocolOf p) (carriedOf p)) × (saidIn (protocolOf p) (carriedOf p) ≤ length (carriedOf p))
   unfolding messageRules shapeRules
-  offset t =
-      let c = carriedOf p in
-      let o = or-false (ltb (offsetIn c) 20) (ltb (length c) (offsetIn c)) (simp t at (m .1 .1 .0)) in
-      (ltb-false (offsetIn c) 20 (o .0), ltb-false (length c) (offsetIn c) (o .1))
-
-  own-length : udp p ≡ true → wordAt (carriedOf p) 4 ≡ length (carriedOf p)
-  unfolding messageRules shapeRules
-  own-length u =
-      let n : tcp p ≡ false = ne-eqb (protocolOf p) 6 (λ e. omega (arith, eqb-true (protocolOf p) 17 u)) in
-      eqb-true (wordAt (carriedOf p) 4) (length (carriedOf p)) (not-false _ (simp (n, u) at (m .1 .1 .0)))
+  said =
+      let least = planIn (familyOf p) (protocolOf p) .fixed in
+      let most = length (carriedOf p) in
+      let n = saidIn (protocolOf p) (carriedOf p) in
+      let o = or-false (ltb n least) (ltb most n) (m .1 .1 .0) in
+      (ltb-false n least (o .0), ltb-false most n (o .1))
 
   pub facts : Facts p
   unfolding fieldAt pseudo bodyOf endOf
@@ -119,21 +125,24 @@ module _ (p : List ℕ) (s : clear (outerRules p)) (m : clear (messageRules p)) 
       let l = carried-length k in
       let r = row in
       let x = fixed in
+      let o = said in
       record {
         outer = k;
         behind = b .0;
         early = omega arith;
         even = omega arith;
-        inside = by-cases (tcp p)
-            (λ t. let o = offset t in let q = r .tcp (eqb-true (protocolOf p) 6 t) in simp t (omega arith))
-            (λ t. simp t (omega arith));
-        body = by-cases (tcp p) (λ t. let o = offset t in simp t (omega arith)) (λ t. simp t (omega arith));
-        whole = omega arith;
+        inside = by-cases (tcp p) (λ t. simp t (omega arith)) (λ t. simp t (omega arith));
+        body = by-cases (udp p)
+            (λ u. simp (u, not-tcp (protocolOf p) u) (omega arith))
+            (λ u. by-cases (tcp p) (λ t. simp (u, t) (omega arith)) (λ t. simp (u, t) (omega arith)));
+        whole = by-cases (udp p) (λ u. simp u (omega arith)) (λ u. simp u (omega arith));
         proto = r .some;
-        tcp = λ t. let o = offset t in let q = r .tcp (eqb-true (protocolOf p) 6 t) in (omega arith, simp t (omega arith), simp (t, carried-byte k 12 (omega arith)));
-        udp = λ t.
-            let q = r .udp (eqb-true (protocolOf p) 17 t) in
-            let n : tcp p ≡ false = ne-eqb (protocolOf p) 6 (λ e. omega (arith, eqb-true (protocolOf p) 17 t)) in
-            (omega arith, simp n (omega arith), omega (arith, own-length t, carried-word k 4 (omega arith)));
+        rest = λ u. simp u (omega arith);
+        tcp = λ t.
+            let q = r .tcp (eqb-true (protocolOf p) 6 t) in
+            (omega arith, simp t (omega arith), simp (t, said-tcp (protocolOf p) (carriedOf p) t, carried-byte k 12 (omega arith)));
+        udp = λ u.
+            let q = r .udp (eqb-true (protocolOf p) 17 u) in
+            (omega arith, simp (not-tcp (protocolOf p) u) (omega arith), simp u (omega (arith, said-udp (protocolOf p) (carriedOf p) u, carried-word k 4 (omega arith))));
         plain = r .plain;
       }

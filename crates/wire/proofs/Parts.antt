@@ -26,10 +26,10 @@ past (suc n) zero (x ∷ xs) h = absurd (omega arith)
 past (suc n) (suc i) (x ∷ xs) h = past n i xs (omega arith)
 
 -- the same byte, and the same length, whether or not they are there
-pub byte-same : (p q : List ℕ) (a n i : ℕ) → byteAt q (a + i) ≡ byteAt p (a + i) → byteAt (part q a n) i ≡ byteAt (part p a n) i
+pub byte-same : (p q : List ℕ) (a n i : ℕ) → (i < n → byteAt q (a + i) ≡ byteAt p (a + i)) → byteAt (part q a n) i ≡ byteAt (part p a n) i
 byte-same p q a n i e =
     elim (decLt i n) [
-      | yes l ↦ part-byte q a n i l ∙ e ∙ sym (part-byte p a n i l)
+      | yes l ↦ part-byte q a n i l ∙ e l ∙ sym (part-byte p a n i l)
       | no l ↦ past n i (drop a q) (omega arith) ∙ sym (past n i (drop a p) (omega arith))
     ]
 

@@ -29,7 +29,7 @@ pub fn icmp(packet: &[u8], h: Header, plan: Plan) -> Part
     if h.declared - h.end < plan.fixed {
         return Part::Refused(Verdict::Shape);
     }
-    placed(h, plan, plan.fixed)
+    placed(h, plan, plan.fixed, h.declared)
 }
 
 // TCP's data offset says where the body begins, behind the fixed header and inside the message.
@@ -50,10 +50,10 @@ pub fn tcp(packet: &[u8], h: Header, plan: Plan) -> Part
     if length < body {
         return Part::Refused(Verdict::Shape);
     }
-    placed(h, plan, body)
+    placed(h, plan, body, h.declared)
 }
 
-// UDP says its length, which is the message's.
+// UDP's length says where the datagram ends, behind the fixed header and inside what is carried.
 pub fn udp(packet: &[u8], h: Header, plan: Plan) -> Part
     requires { ⌜ (Frame.Ip h ≡ outerOf (now packet)) × (rowOf (h .family) (h .protocol) ≡ Row.Covered plan) ⌝ }
     requires { ⌜ h .protocol ≡ 17 ⌝ }
@@ -64,23 +64,27 @@ pub fn udp(packet: &[u8], h: Header, plan: Plan) -> Part
     if length < plan.fixed {
         return Part::Refused(Verdict::Shape);
     }
-    if word(packet, start + UDP_LENGTH) as usize != length {
+    let own = word(packet, start + UDP_LENGTH) as usize;
+    if own < plan.fixed {
         return Part::Refused(Verdict::Shape);
     }
-    placed(h, plan, plan.fixed)
+    if length < own {
+        return Part::Refused(Verdict::Shape);
+    }
+    placed(h, plan, plan.fixed, start + own)
 }
 
-// The message whose body begins so many bytes behind its start.
-fn placed(h: Header, plan: Plan, body: usize) -> Part
+// The message whose body begins so many bytes behind its start, and which ends there.
+fn placed(h: Header, plan: Plan, body: usize, end: usize) -> Part
     requires { ⌜ (h .end + plan .field ≤ h .declared) × (h .end + body ≤ h .declared) ⌝ }
-    ensures { λ r. ⌜ r ≡ Part.Whole (record { family = h .family; header = h .end; start = h .end; end = h .declared; protocol = h .protocol; field = h .end + plan .field; body = h .end + body; pseudo = plan .pseudo }) ⌝ }
+    ensures { λ r. ⌜ r ≡ Part.Whole (record { family = h .family; header = h .end; start = h .end; end = end; protocol = h .protocol; field = h .end + plan .field; body = h .end + body; pseudo = plan .pseudo }) ⌝ }
 {
     let family = h.family;
     Part::Whole(Message {
         family,
         header: h.end,
         start: h.end,
-        end: h.declared,
+        end,
         protocol: h.protocol,
         field: h.end + plan.field,
         body: h.end + body,

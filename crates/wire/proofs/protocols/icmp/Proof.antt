@@ -1,8 +1,9 @@
 -- Each return is a case of `innerOf` for a protocol that says no length.
 use mathlib.Core.Path.{_∙_}
 use native.Mathlib.Omega.{arith}
+use borrow.Author.Tests.{ne-eqb}
 use denote.Ref.{now}
-use Rattle.wire.proofs.InnerCases.{Room, room, short, plain-fits}
+use Rattle.wire.proofs.InnerCases.{Room, room, short, fits}
 use Rattle.wire.proofs.protocols.icmp.Statement.{statement}
 use Rattle.wire.proofs.protocols.icmp.Tie as tie
 
@@ -12,7 +13,10 @@ known c = room _ _ (c .pre .0 .0) _ (c .pre .0 .1)
 returns-2 : tie.Need-returns-2
 returns-2 c =
     let d = c .before .before .before .before .before .pre in
-    c .placed .ensures ∙ plain-fits _ _ (d .0 .0) _ (d .0 .1) (omega arith) (d .1 .0) (d .1 .1)
+    let t = ne-eqb _ _ (d .1 .0) in
+    let u = ne-eqb _ _ (d .1 .1) in
+    c .placed .ensures
+    ∙ fits _ _ (d .0 .0) _ (d .0 .1) (omega arith) _ _ (simp t) (simp u) (simp (t, u) (omega arith)) (simp (t, u) (omega arith))
 
 pub icmp-spec : {M : Type 1} → statement M
 icmp-spec =

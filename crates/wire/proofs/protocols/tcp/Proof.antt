@@ -1,8 +1,8 @@
 -- Each return is a case of `innerOf` for TCP.
-use mathlib.Core.Path.{_∙_}
+use mathlib.Core.Path.{refl, _∙_}
 use native.Mathlib.Omega.{arith}
 use denote.Ref.{now}
-use Rattle.wire.proofs.InnerCases.{Room, room, short, tcp-under, tcp-past, tcp-fits}
+use Rattle.wire.proofs.InnerCases.{Room, room, short, under, past, fits}
 use borrow.Author.Needs.{needs}
 use Rattle.wire.proofs.protocols.tcp.Statement.{statement}
 use Rattle.wire.proofs.protocols.tcp.Tie as tie
@@ -12,24 +12,19 @@ known c = room _ _ (c .pre .0 .0) _ (c .pre .0 .1)
 
 returns-2 : tie.Need-returns-2
 returns-2 c =
-    let s = c .before .before .before .before .before .before .before .before .before in
-    let d = s .pre in
-    let l = known s .line .tcp (d .1) in
-    tcp-under _ _ (d .0 .0) _ (d .0 .1) (omega arith) (d .1) (omega arith)
+    let d = c .before .before .before .before .before .before .before .before .before .pre in
+    under _ _ (d .0 .0) _ (d .0 .1) (omega arith) (rw (d .1) (omega arith))
 
 returns-3 : tie.Need-returns-3
 returns-3 c =
-    let s = c .before .before .before .before .before .before .before .before .before .before in
-    let d = s .pre in
-    let l = known s .line .tcp (d .1) in
-    tcp-past _ _ (d .0 .0) _ (d .0 .1) (omega arith) (d .1) (omega arith) (omega arith)
+    let d = c .before .before .before .before .before .before .before .before .before .before .pre in
+    past _ _ (d .0 .0) _ (d .0 .1) (omega arith) (rw (d .1) (omega arith)) (rw (d .1) (omega arith))
 
 returns-4 : tie.Need-returns-4
 returns-4 c =
-    let s = c .before .before .before .before .before .before .before .before .before .before .before in
-    let d = s .pre in
-    let l = known s .line .tcp (d .1) in
-    c .placed .ensures ∙ tcp-fits _ _ (d .0 .0) _ (d .0 .1) (omega arith) (d .1) (omega arith) (omega arith) _ (omega arith)
+    let d = c .before .before .before .before .before .before .before .before .before .before .before .pre in
+    c .placed .ensures
+    ∙ fits _ _ (d .0 .0) _ (d .0 .1) (omega arith) _ _ (rw (d .1) (omega arith)) (rw (d .1) refl) (rw (d .1) (omega arith)) (rw (d .1) (omega arith))
 
 pub tcp-spec : {M : Type 1} → statement M
 tcp-spec =

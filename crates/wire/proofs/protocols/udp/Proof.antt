@@ -1,8 +1,8 @@
 -- Each return is a case of `innerOf` for UDP.
-use mathlib.Core.Path.{_∙_}
+use mathlib.Core.Path.{refl, _∙_}
 use native.Mathlib.Omega.{arith}
 use denote.Ref.{now}
-use Rattle.wire.proofs.InnerCases.{Room, room, short, udp-misfits, udp-fits}
+use Rattle.wire.proofs.InnerCases.{Room, room, short, under, past, fits}
 use borrow.Author.Needs.{needs}
 use Rattle.wire.proofs.protocols.udp.Statement.{statement}
 use Rattle.wire.proofs.protocols.udp.Tie as tie
@@ -12,13 +12,19 @@ known c = room _ _ (c .pre .0 .0) _ (c .pre .0 .1)
 
 returns-2 : tie.Need-returns-2
 returns-2 c =
-    let d = c .before .before .before .before .before .before .pre in
-    udp-misfits _ _ (d .0 .0) _ (d .0 .1) (omega arith) (d .1) (λ e. omega arith)
+    let d = c .before .before .before .before .before .before .before .pre in
+    under _ _ (d .0 .0) _ (d .0 .1) (omega arith) (rw (d .1) (omega arith))
 
 returns-3 : tie.Need-returns-3
 returns-3 c =
-    let d = c .before .before .before .before .before .before .before .pre in
-    c .placed .ensures ∙ udp-fits _ _ (d .0 .0) _ (d .0 .1) (omega arith) (d .1) (omega arith)
+    let d = c .before .before .before .before .before .before .before .before .pre in
+    past _ _ (d .0 .0) _ (d .0 .1) (omega arith) (rw (d .1) (omega arith)) (rw (d .1) (omega arith))
+
+returns-4 : tie.Need-returns-4
+returns-4 c =
+    let d = c .before .before .before .before .before .before .before .before .before .pre in
+    c .placed .ensures
+    ∙ fits _ _ (d .0 .0) _ (d .0 .1) (omega arith) _ _ (rw (d .1) refl) (rw (d .1) (omega arith)) (rw (d .1) (omega arith)) (rw (d .1) (omega arith))
 
 pub udp-spec : {M : Type 1} → statement M
 udp-spec =
@@ -30,5 +36,7 @@ udp-spec =
     (λ c κs. let d = c .before .before .before .before in let k = known d in omega (arith, k .line .udp (d .pre .1)))
     (λ c. search needs)
     returns-2
-    (λ c κs. let k = known (c .before .before .before .before .before .before) in omega arith)
-    returns-3)
+    returns-3
+    (λ c. search needs)
+    (λ c κs. let k = known (c .before .before .before .before .before .before .before .before) in omega arith)
+    returns-4)
