@@ -7,8 +7,11 @@
  * allocates nothing and has no state, so calls on different buffers may run at once. Buffers lent to
  * one call must not overlap, the answers behind pointers among them. A pointer may be null where
  * its length is 0. No other null pointer and no length past the buffer's end is allowed: these the
- * library can't see. A packet begins at its IP header, and bytes past its declared end are a tail,
- * which is neither judged nor changed.
+ * library can't see.
+ *
+ * Packets and tails. A packet begins at its IP header. Bytes past its declared end are a tail, which
+ * is neither judged nor changed. So are bytes inside it that follow a UDP datagram: UDP's length says
+ * where that ends, and sum, body and edits end there.
  *
  * Refusals. Every verdict but good (0) and unsummed (1) is a refusal, and a refused call writes to
  * no buffer. Where several would apply, the first in the order given is the answer. Two lists have
@@ -16,7 +19,8 @@
  * length alone, in this order: no bytes 2; version 3; under 20 (IPv4) or 40 (IPv6) bytes 2; IPv4
  * header length under 5 words 4; IPv4 total length below the header length 4; fewer bytes than
  * declared 2. "The shape's refusals" are the outer ones, and then: fragment 6; protocol 7; message
- * shorter than its fixed header 4; TCP or UDP length 4.
+ * shorter than its fixed header 4; TCP's data offset or UDP's length below that header or past the
+ * message 4.
  *
  * Fragments. A message's field stands in its first fragment and covers all of them, so nobody judges
  * it on the way: judge says 6 of an IPv4 fragment once its header's sum has passed, and 7 of an IPv6
@@ -34,7 +38,7 @@ extern "C" {
 
 /* The version of this surface. It goes up by one whenever a function, a constant, or what an answer
  * means is added, changed or taken away; CHANGELOG.md says what a host's author must do then. */
-#define HIFROSTUM_SURFACE_VERSION 4
+#define HIFROSTUM_SURFACE_VERSION 5
 
 /* What a call answers. */
 enum hifrostum_verdict {
@@ -88,8 +92,8 @@ uint8_t hifrostum_set_address(uint8_t *packet, size_t len, uint32_t side,
 
 /* Writes new bytes into the body from a place on, and updates the message field. The body is the
  * message after its fixed header (8 bytes for ICMP and UDP, 4 for ICMPv6), and for TCP after its
- * data offset; place 0 is its first byte. A UDP field 0000 over IPv4 stays. An empty stretch that
- * fits answers 0 and writes nothing. The new bytes are read only.
+ * data offset; place 0 is its first byte. UDP's ends with the datagram. A UDP field 0000 over IPv4
+ * stays. An empty stretch that fits answers 0 and writes nothing. The new bytes are read only.
  * Refusals: the shape's, then 8; 10 unless place plus length is at most the body's length, and
  * nothing wraps; 12 for a nonempty stretch in an ICMP message that is all zeros, its field aside,
  * before or after. */

@@ -3,8 +3,8 @@
 //! Each function is the C function of the same name with slices for pointers and lengths, and a
 //! [`Verdict`] for its number. A slice is never too short, and what one call writes is borrowed by it
 //! alone, so nothing of what `hifrostum.h` asks of a C caller is left to ask here. A packet begins at
-//! its IP header; bytes past its declared end are a tail, neither judged nor changed. A refused call
-//! changes no byte.
+//! its IP header. Bytes past its declared end are a tail, neither judged nor changed, and so are those
+//! inside it that follow a UDP datagram. A refused call changes no byte.
 //!
 //! ```no_run
 //! # let mut packet = [0u8; 20];
@@ -228,7 +228,8 @@ pub fn set_address(packet: &mut [u8], side: Side, address: &[u8]) -> Verdict {
 }
 
 /// Writes new bytes into the body from a place on and updates the message field; `Place` if they
-/// don't fit, `Blank` for an ICMP message that is all zeros before or after.
+/// don't fit, `Blank` for an ICMP message that is all zeros before or after. UDP's body ends with the
+/// datagram, as its length says, and not always with the packet.
 pub fn set_stretch(packet: &mut [u8], place: usize, bytes: &[u8]) -> Verdict {
     let (to, len) = (packet.as_mut_ptr(), packet.len());
     Verdict::answered(unsafe {

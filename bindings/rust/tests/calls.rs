@@ -125,7 +125,8 @@ fn fragments_get_through() {
         (6, 0x20, Verdict::Fragment), // more follow
         (7, 2, Verdict::Fragment),    // at byte 16
         (9, 99, Verdict::Uncovered),
-        (25, 9, Verdict::Shape), // UDP's length
+        (25, 7, Verdict::Shape),  // UDP's length, below its header's
+        (25, 11, Verdict::Shape), // and past the message
     ] {
         let mut packet = UDP;
         packet[at] = value;
@@ -170,6 +171,52 @@ fn refused_lifetimes() {
     assert_eq!(refused(3, 30, 29), Verdict::Cut);
     assert_eq!(refused(8, 1, 30), Verdict::Spent);
     assert_eq!(refused(8, 0, 30), Verdict::Spent);
+}
+
+/// UDP datagrams that end before their packets do: what follows is a tail, which no call sums or writes.
+#[test]
+fn trailing_areas() {
+    let mut packet = UDP.to_vec();
+    packet.extend([0xFF, 0x48, 0x69]);
+    (packet[3], packet[11]) = (0x21, 0xB3); // three bytes more, and a header field of three less
+    let good = packet.clone();
+    assert_eq!(judge(&packet), Verdict::Good);
+    packet[10..12].fill(1);
+    packet[26..28].fill(1);
+    assert_eq!(mend(&mut packet), Verdict::Good);
+    assert_eq!(packet, good);
+    assert_eq!(lower_lifetime(&mut packet), Verdict::Good);
+    let to = [10, 0, 0, 9];
+    assert_eq!(
+        set_address(&mut packet, Side::Destination, &to),
+        Verdict::Good
+    );
+    assert_eq!(packet[10..12], [0x71, 0x1A]);
+    assert_eq!(packet[26..28], [0xC5, 0xAD]);
+    assert_eq!(set_stretch(&mut packet, 1, b"op"), Verdict::Place);
+    assert_eq!(set_stretch(&mut packet, 3, b""), Verdict::Place);
+    assert_eq!(set_stretch(&mut packet, 1, b"o"), Verdict::Good);
+    assert_eq!(packet[28..], [0x48, 0x6F, 0xFF, 0x48, 0x69]);
+    assert_eq!(judge(&packet), Verdict::Good);
+    for (length, verdict) in [
+        (7, Verdict::Shape),
+        (8, Verdict::MessageSum),
+        (13, Verdict::MessageSum),
+        (14, Verdict::Shape),
+    ] {
+        let mut packet = good.clone();
+        packet[25] = length;
+        assert_eq!(judge(&packet), verdict);
+    }
+    // over IPv6 an odd datagram of 9 bytes, and FF behind it
+    let mut six = [0; 50];
+    (six[0], six[5], six[6], six[7]) = (0x60, 10, 17, 64);
+    (six[23], six[39]) = (1, 1);
+    six[40..].copy_from_slice(&[0x13, 0x88, 0x13, 0x89, 0, 9, 0x90, 0xC9, 0x48, 0xFF]);
+    assert_eq!(judge(&six), Verdict::Good);
+    assert_eq!(set_stretch(&mut six, 0, b"I"), Verdict::Good);
+    assert_eq!(six[46..], [0x8F, 0xC9, 0x49, 0xFF]);
+    assert_eq!(set_stretch(&mut six, 1, b"I"), Verdict::Place);
 }
 
 /// A field at FFFF where the fresh one is 0000: an edit leaves what the mender writes.
