@@ -1,6 +1,6 @@
-/* Holds one way to another on random packets: all protocols, families, options, fragments, tails and corner fields, all
- * lengths, and every refusal. Most packets are built right and then damaged a little or not at all, so that each
- * test decides often. */
+/* Holds one way to another on random packets: all protocols, families, options, fragments, tails behind the packet and
+ * behind UDP's datagram, corner fields, all lengths, and every refusal. Most packets are built right and then damaged a
+ * little or not at all, so that each test decides often. */
 #include <stdio.h>
 #include <stdlib.h>
 #include <string.h>
@@ -46,10 +46,11 @@ static size_t word(const uint8_t *at)
     return 256u * at[0] + at[1];
 }
 
-/* Puts a corner into the message's field and changes its last whole word so that the sum is right with it. */
-static void settle(const struct way *ours, uint8_t *p, size_t header, size_t field, size_t end)
+/* Puts a corner into the message's field and changes the last whole word of the bytes that it covers so that the sum is
+ * right with it. */
+static void settle(const struct way *ours, uint8_t *p, size_t header, size_t field, size_t covered, size_t end)
 {
-    uint8_t fresh[ROOM], *last = p + header + (end - header) / 2 * 2 - 2;
+    uint8_t fresh[ROOM], *last = p + header + covered / 2 * 2 - 2;
     put(p + field, corner());
     memcpy(fresh, p, ROOM);
     put(fresh + field, 1); /* not UDP's 0000, which would stay */
@@ -57,8 +58,9 @@ static void settle(const struct way *ours, uint8_t *p, size_t header, size_t fie
     put(last, (word(last) + word(fresh + field) + 65535 - word(p + field)) % 65535);
 }
 
-/* Builds a packet and answers its length. Its fields are fresh, or corners. */
-static size_t build(const struct way *ours, uint8_t *p)
+/* Builds a packet and answers its length. Its fields are fresh, or corners. *tail is how much follows a UDP datagram
+ * inside it. */
+static size_t build(const struct way *ours, uint8_t *p, size_t *tail)
 {
     static const struct {
         uint8_t protocol, fixed, field, four, six;
@@ -66,6 +68,8 @@ static size_t build(const struct way *ours, uint8_t *p)
     size_t k = below(4), four = kinds[k].four && (!kinds[k].six || below(2));
     size_t header = four ? (below(3) ? 20 : 20 + 4 * below(11)) : 40, field = header + kinds[k].field;
     size_t extra = below(4) == 0 ? below(1500) : below(140), end = header + kinds[k].fixed + extra;
+    *tail = kinds[k].protocol == 17 && below(2) ? below(below(2) ? extra + 1 : extra % 16 + 1) : 0;
+    size_t covered = end - header - *tail;
     fill(p, ROOM);
     p[0] = (uint8_t)(four ? 64 + header / 4 : 96 + below(16));
     put(p + (four ? 2 : 4), four ? end : end - header);
@@ -77,10 +81,10 @@ static size_t build(const struct way *ours, uint8_t *p)
     if (kinds[k].protocol == 6)
         p[header + 12] = (uint8_t)(80 + 16 * below(below(2) ? 1 : 11));
     if (kinds[k].protocol == 17)
-        put(p + header + 4, end - header);
+        put(p + header + 4, covered);
     ours->mend(p, end);
-    if (extra >= 4 && below(4) == 0)
-        settle(ours, p, header, field, end);
+    if (extra - *tail >= 4 && below(4) == 0)
+        settle(ours, p, header, field, covered, end);
     else if (below(3) == 0)
         put(p + field, corner());
     if (four && below(6) == 0)
@@ -98,12 +102,13 @@ static void seal(uint8_t *p)
     put(p + 10, 65535 - (total == 0 ? 0 : 1 + (total - 1) % 65535));
 }
 
-/* Damages a packet: one of the places that a test looks at, or any byte; or its length. */
+/* Damages a packet: one of the places that a test looks at, or any byte; or its length; or what UDP says of its own, to
+ * one beside 8 or beside the packet's end. */
 static size_t damage(uint8_t *p, size_t len)
 {
     static const uint8_t places[] = {0, 2, 3, 4, 5, 6, 7, 8, 9, 10, 12, 24, 25, 32, 44, 45};
     size_t header = p[0] >> 4 == 4 ? 4u * (p[0] & 15) : 40;
-    switch (below(8)) {
+    switch (below(9)) {
     case 0: return below(len + 1);
     case 1: return below(64);
     case 2: p[places[below(16)]] = (uint8_t)below(256); break;
@@ -111,6 +116,7 @@ static size_t damage(uint8_t *p, size_t len)
     case 4: p[header + below(20)] ^= (uint8_t)(1 << below(8)); break;
     case 5: p[below(len + 1)] = (uint8_t)below(256); break;
     case 6: put(p + (below(2) ? 2 : 4), header + below(len + 1)); break;
+    case 7: put(p + header + 4, (below(2) ? 8 : len - header) + below(5) - 2); break;
     default: p[0] = (uint8_t)below(256); break;
     }
     return len;
@@ -167,11 +173,13 @@ unsigned long differ(const struct way *ours, const char *by, const struct way *w
 {
     static uint8_t packet[ROOM + GUARD], want[ROOM + GUARD], got[ROOM + GUARD];
     static struct call c;
-    unsigned long calls = 0, seen[6][13] = {{0}};
+    unsigned long calls = 0, seen[2][6][13] = {{{0}}};
     state = seed * 0x9E3779B97F4A7C15 + 1;
     for (unsigned long i = 0; i < packets; i++) {
-        c.len = build(ours, packet);
-        for (size_t times = below(4); times > 1; times--)
+        size_t tail, times = below(4);
+        c.len = build(ours, packet, &tail);
+        int right = tail > 0 && times < 2;
+        for (; times > 1; times--)
             c.len = damage(packet, c.len);
         if (packet[0] >> 4 == 4 && below(3) == 0)
             seal(packet);
@@ -185,18 +193,23 @@ unsigned long differ(const struct way *ours, const char *by, const struct way *w
                 show(&c, packet, a, b);
                 exit(1);
             }
-            if (c.op > 0 && a < 13)
-                seen[c.op][a]++;
+            if (c.op > 0 && a < 13) {
+                seen[0][c.op][a]++;
+                seen[1][c.op][a] += right;
+            }
             calls++;
         }
     }
-    /* every verdict that a call has must have been met */
-    static const unsigned possible[6] = {0, 0x3FF, 0xDD, 0x81D, 0x5DD, 0x15DD};
-    for (int op = 1; op < 6; op++)
-        for (int v = 0; v < 13; v++)
-            if ((seen[op][v] == 0) == (possible[op] >> v & 1) && packets >= 10000) {
-                fprintf(stderr, "bench: operation %d answered %d %lu times\n", op, v, seen[op][v]);
-                exit(1);
-            }
+    /* every verdict that a call has must have been met; and of packets of the right shape with a tail inside every one
+     * that it has for these, and no other */
+    static const unsigned possible[2][6] = {{0, 0x3FF, 0xDD, 0x81D, 0x5DD, 0x15DD}, {0, 0x323, 1, 0x801, 0x501, 0x501}};
+    for (int i = 0; i < 2 * 6 * 13 && packets >= 10000; i++) {
+        int tail = i / 78, op = i / 13 % 6, v = i % 13;
+        if ((seen[tail][op][v] == 0) == (possible[tail][op] >> v & 1)) {
+            fprintf(stderr, "bench: operation %d answered %d %lu times%s\n", op, v, seen[tail][op][v],
+                    tail ? ", with a tail in the packet" : "");
+            exit(1);
+        }
+    }
     return calls;
 }

@@ -17,8 +17,8 @@ enum { ICMP = 1, TCP = 6, UDP = 17, ICMP6 = 58 };
  * header's sum as well (a judge). */
 enum look { OUTER, SHAPED, SUMMED };
 
-/* A message, as far as it is known, and where its body begins. The first four are constants in each copy, and so is the
- * header's length but for one copy. */
+/* A message, as far as it is known, and where its body begins; UDP's is the datagram, once its length was read. The
+ * first four are constants in each copy, and so is the header's length but for one copy. */
 struct message {
     int family;
     unsigned protocol;
@@ -48,12 +48,15 @@ EACH uint8_t inner(work *then, uint8_t *p, struct message m, struct ask ask)
         if (RARE(m.body < 20 || m.body > m.len))
             return 4;
     }
-    /* IPv6 has declared the same number in the same byte order, which is of use where the family is known */
+    /* mostly UDP says the message's length; IPv6 has declared that in the same byte order, which is of use where the
+     * family is known */
     int declared = SHAPE == COPIES && m.family == 6;
-    if (m.protocol == UDP && !declared && RARE(number(message + 4) != m.len))
-        return 4;
-    if (m.protocol == UDP && declared && RARE(two(message + 4) != two(p + 4)))
-        return 4;
+    if (m.protocol == UDP && RARE(declared ? two(message + 4) != two(p + 4) : number(message + 4) != m.len)) {
+        size_t datagram = number(message + 4);
+        if (datagram < 8 || datagram > m.len)
+            return 4;
+        m.len = datagram;
+    }
     return then(p, m, ask);
 }
 

@@ -97,7 +97,8 @@ struct place {
     int four;
 };
 
-/* Finds them, and looks whether it is UDP and whole. A lifetime needs the IP header and the declared length alone. */
+/* Finds them, and looks whether it is UDP and whole: then the end is the datagram's. A lifetime needs the IP header and
+ * the declared length alone. */
 static inline int find(const uint8_t *p, size_t len, struct place *at, int udp)
 {
     if (len >= 20 && p[0] >> 4 == 4) {
@@ -113,7 +114,13 @@ static inline int find(const uint8_t *p, size_t len, struct place *at, int udp)
     } else {
         return 0;
     }
-    return !udp || (at->end - at->start >= 8 && swap(word(p + at->start + 4)) == at->end - at->start);
+    if (!udp)
+        return 1;
+    if (at->end - at->start < 8)
+        return 0;
+    size_t message = at->end - at->start, datagram = swap(word(p + at->start + 4));
+    at->end = at->start + datagram;
+    return datagram >= 8 && datagram <= message;
 }
 
 typedef uint16_t summing(const uint8_t *, size_t);
