@@ -1,6 +1,6 @@
 /* Packets that meet the rare branches by design: totals that are multiples of 65535, fields at 0000, FFFF and beside
- * them, changes of 0, 1 and 65534; messages of every length at every address modulo 32; and lifetimes in packets that
- * no other edit takes.
+ * them, changes of 0, 1 and 65534; messages of every length at every address modulo 32; lifetimes in packets that no
+ * other edit takes; and UDP datagrams that end before their message does.
  *
  * What is wanted is the answer of model.h. After each call the verdict and every byte are compared, and in the end each
  * rare branch of the model must have been taken.
@@ -53,9 +53,9 @@ static void hold(enum call call, const struct packet *p, size_t address, size_t 
     if (got == wanted && memcmp(at, want.bytes, p->len) == 0 && kept)
         return;
     if (failed++ < 20)
-        printf("corners: failed: %s, IPv%u, protocol %u, message of %zu bytes, fields %04X and %04X: "
+        printf("corners: failed: %s, IPv%u, protocol %u, message of %zu bytes, %zu covered, fields %04X and %04X: "
                "wanted %u with %04X and %04X, got %u with %04X and %04X%s\n",
-               names[call], p->kind->family, p->kind->protocol, message_len(p), word(p->bytes + 10),
+               names[call], p->kind->family, p->kind->protocol, message_len(p), covered_len(p), word(p->bytes + 10),
                word(p->bytes + p->header + p->kind->field), wanted, word(want.bytes + 10), word(field_of(&want)), got,
                word(at + 10), word(at + p->header + p->kind->field), kept ? "" : "; a guard byte changed");
 }
@@ -82,7 +82,7 @@ static void shape(struct packet *p)
     if (p->kind->protocol == TCP)
         p->bytes[p->header + 12] = 0x50;
     if (p->kind->protocol == UDP)
-        put(p->bytes + p->header + 4, message_len(p));
+        put(p->bytes + p->header + 4, message_len(p) - p->tail);
 }
 
 /* Sets both fields fresh, UDP's 0000 too. */
@@ -92,13 +92,16 @@ static void freshen(struct packet *p)
     mend(p);
 }
 
-/* Builds a packet of a kind with so many bytes of message, random, with both fields fresh. */
+/* Builds a packet of a kind with so many bytes of message, random, with both fields fresh. A tail follows the datagram,
+ * or takes its end where a packet can't be longer. */
 static void build(struct packet *p, const struct kind *kind, size_t options, size_t message)
 {
     p->kind = kind;
     p->fault = 0;
     p->header = kind->family == 4 ? 20 + options : 40;
-    p->len = p->header + message;
+    p->tail = kind->tail ? 1 + any(40) : 0;
+    size_t longest = kind->family == 4 ? 65535 : 40 + 65535, len = p->header + message + p->tail;
+    p->len = len < longest ? len : longest;
     for (size_t i = 0; i < p->len; i++)
         p->bytes[i] = (uint8_t)any(256);
     if (kind->family == 4) {
@@ -108,7 +111,7 @@ static void build(struct packet *p, const struct kind *kind, size_t options, siz
         p->bytes[9] = (uint8_t)kind->protocol;
     } else {
         p->bytes[0] = 0x60;
-        put(p->bytes + 4, message);
+        put(p->bytes + 4, message_len(p));
         p->bytes[6] = (uint8_t)kind->protocol;
     }
     p->bytes[kind->family == 4 ? 8 : 7] = 64;
@@ -120,8 +123,8 @@ static void build(struct packet *p, const struct kind *kind, size_t options, siz
 enum spoil { FIRST, MIDDLE, LAST, OTHER, EMPTY, SHORT, LESS, MORE, SPOILS };
 
 /* Makes a packet a fragment (in IPv6 one with a header between), gives it another protocol, cuts its message and its
- * declared length, or has TCP or UDP say another length. The header field becomes fresh. Answers 0 if this kind of
- * packet can't be spoiled so. */
+ * declared length, or has TCP or UDP say a length below the fixed header's or past the message. The header field
+ * becomes fresh. Answers 0 if this kind of packet can't be spoiled so. */
 static int spoil(struct packet *p, enum spoil how)
 {
     static const unsigned flags[] = {0x2000, 0x60B9, 0x1FFF}, between[] = {44, 0, 60};
@@ -137,10 +140,10 @@ static int spoil(struct packet *p, enum spoil how)
     } else if (p->kind->protocol == TCP)
         message[12] = how == LESS ? 0x40 : 0xF0;
     else if (p->kind->protocol == UDP)
-        put(message + 4, message_len(p) + (how == MORE) - (how == LESS));
+        put(message + 4, how == LESS ? 7 : message_len(p) + 1);
     else
         return 0;
-    p->fault = how <= LAST && four ? 6 : how <= OTHER ? 7 : 4;
+    p->fault = how <= LAST && four ? 6 : how <= OTHER ? 7 : how <= SHORT ? 4 : 0;
     if (four) {
         put(p->bytes + 10, 0);
         put(p->bytes + 10, 65535 - fold(total(p->bytes, p->header)));
@@ -180,13 +183,13 @@ static void message(const struct kind *kind, size_t options, size_t len, size_t 
     build(&p, kind, options, len);
     if (address % 4 == 3) {
         size_t from = kind->family == 4 ? 12 : 8, to = kind->family == 4 ? 20 : 40;
-        memset(p.bytes + body_of(&p), address % 16 == 3 ? 0 : 0xFF, p.len - body_of(&p));
+        memset(p.bytes + body_of(&p), address % 16 == 3 ? 0 : 0xFF, p.len - p.tail - body_of(&p));
         memset(p.bytes + from, address % 8 == 7 ? 0xFF : 0, to - from);
         memset(p.bytes + to - 4, address % 16 == 3 ? 0 : 0xFF, 4);
         freshen(&p);
     }
     hold(JUDGE, &p, address, 0, NULL, 0);
-    p.bytes[p.header + any((unsigned)len)] ^= (uint8_t)(1 << any(8));
+    p.bytes[p.header + any((unsigned)message_len(&p))] ^= (uint8_t)(1 << any(8));
     shape(&p);
     hold(JUDGE, &p, address, 0, NULL, 0);
     hold(MEND, &p, address, 0, NULL, 0);
@@ -205,8 +208,8 @@ static void lengths(void)
             for (size_t address = 0; address < 32; address += longer[i] < 5000 ? 1 : 5)
                 message(&kinds[k], 0, longer[i], address);
     }
-    for (size_t k = 3; k < KINDS; k++)
-        for (size_t address = 0; address < 16; address++)
+    for (size_t k = 0; k < KINDS; k++)
+        for (size_t address = 0; address < 16 && kinds[k].family == 6; address++)
             message(&kinds[k], 0, 65535, address);
     group("messages of every length");
 }
@@ -438,6 +441,56 @@ static void to_multiples(void)
     group("edits to multiples and back");
 }
 
+/* The field that is right, and those that would be if the pseudo-header carried the message's length, if the tail were
+ * summed, or both. */
+static void misread(size_t address)
+{
+    for (unsigned how = RIGHT; how <= BOTH; how++) {
+        put(field_of(&p), 0);
+        unsigned field = 65535 - fold(total_read(&p, how));
+        put(field_of(&p), field == 0 ? 0xFFFF : field);
+        hold(JUDGE, &p, address, 0, NULL, 0);
+        hold(MEND, &p, address, 0, NULL, 0);
+    }
+    freshen(&p);
+}
+
+/* Edits of p. Stretches end on both sides of the datagram's end, and with the message. */
+static void edits(size_t address)
+{
+    uint8_t new[40];
+    size_t body = refused(&p) ? 0 : covered_len(&p) - 8;
+    for (size_t i = 0; i < sizeof new; i++)
+        new[i] = (uint8_t)any(256);
+    hold(LOWER, &p, address, 0, NULL, 0);
+    hold(ADDRESS, &p, address, any(2), new, p.kind->family == 4 ? 4 : 16);
+    for (size_t len = 0; len <= 4; len++)
+        for (size_t end = body > len ? body : len; end <= body + 2; end++)
+            hold(STRETCH, &p, address, end - len, new, len);
+    hold(STRETCH, &p, address, 0, new, message_len(&p) - 8);
+}
+
+/* Every length that UDP may say, and some that it may not, in messages of 9 to 48 bytes. */
+static void datagrams(void)
+{
+    static const size_t others[] = {0, 1, 6, 7, 0x00FF, 0x0100, 0x0800, 0x7FFF, 0x8008, 0xFF08, 0xFFFE, 0xFFFF};
+    enum { OTHERS = sizeof others / sizeof *others };
+    for (size_t i = 0; i < KINDS * 96; i++) {
+        const struct kind *kind = &kinds[i / 96];
+        build(&p, kind, i % 3 ? 0 : 4 * any(11), 8);
+        for (size_t length = 8; kind->tail && length <= message_len(&p) + 2 + OTHERS; length++) {
+            size_t past = message_len(&p) + 3;
+            put(p.bytes + p.header + 4, length < past ? length : others[length - past]);
+            hold(JUDGE, &p, i % 32, 0, NULL, 0);
+            hold(MEND, &p, i % 32, 0, NULL, 0);
+            if (!refused(&p))
+                misread(i % 32);
+            edits(i % 32);
+        }
+    }
+    group("datagrams that end before their message");
+}
+
 /* Fails unless each branch was met with each kind that has it. */
 static unsigned long branches(void)
 {
@@ -452,10 +505,11 @@ static unsigned long branches(void)
                            : b == HEADER_ZERO || b == HEADER_FULL                ? four
                            : b == UPDATED_HEADER || b == FULL_HEADER             ? four
                            : b == LOWERED_SILENT                                 ? udp && !four
+                           : b >= TAIL_LENGTH                                    ? kinds[k].tail != 0
                                                                                  : 1;
             if ((met[k][b] != 0) != possible) {
-                printf("corners: failed: branch %u was met %lu times, IPv%u, protocol %u\n", b, met[k][b],
-                       kinds[k].family, kinds[k].protocol);
+                printf("corners: failed: branch %u was met %lu times, IPv%u, protocol %u%s\n", b, met[k][b],
+                       kinds[k].family, kinds[k].protocol, kinds[k].tail ? " with a tail" : "");
                 failed++;
             }
             all += possible;
@@ -473,6 +527,7 @@ int main(void)
     addresses();
     stretches();
     to_multiples();
+    datagrams();
     unsigned long rare = branches();
     printf("corners: %lu checks, %lu failed (%lu rare branches, each met)\n", checks, failed, rare);
     return failed != 0;

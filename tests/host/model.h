@@ -1,7 +1,7 @@
 /* A model of the rules for packets whose IP header and declared length are right: the rules paper's formulas over the
  * covered block, which is laid out whole, pseudo-header first, and summed byte by byte. A packet that is a fragment, of
- * another protocol or of a wrong shape behind its header says so itself. It never asks the library. It counts how often
- * it takes the rare branches. */
+ * another protocol or without a whole fixed header says so itself. It never asks the library. It counts how often it
+ * takes the rare branches. */
 #ifndef MODEL_H
 #define MODEL_H
 
@@ -10,9 +10,11 @@
 
 enum { ICMP = 1, TCP = 6, UDP = 17, ICMP6 = 58, ROOM = 65600 };
 
+/* Kinds of packets. In those with a tail bytes follow the UDP datagram inside the packet. */
 static const struct kind {
-    unsigned family, protocol, fixed, field;
-} kinds[] = {{4, ICMP, 8, 2}, {4, TCP, 20, 16}, {4, UDP, 8, 6}, {6, TCP, 20, 16}, {6, UDP, 8, 6}, {6, ICMP6, 4, 2}};
+    unsigned family, protocol, fixed, field, tail;
+} kinds[] = {{4, ICMP, 8, 2, 0}, {4, TCP, 20, 16, 0}, {4, UDP, 8, 6, 0}, {4, UDP, 8, 6, 1},
+             {6, TCP, 20, 16, 0}, {6, UDP, 8, 6, 0}, {6, UDP, 8, 6, 1}, {6, ICMP6, 4, 2, 0}};
 enum { KINDS = sizeof kinds / sizeof *kinds };
 
 /* Rare branches, and how often the model took them in a compared call, for each kind of packet. */
@@ -33,6 +35,12 @@ enum branch {
     BLANK_AFTER,    /* or would be after it */
     LOWERED_FAULT,  /* a lifetime is lowered that stands before a message which can't be judged */
     LOWERED_SILENT, /* or before UDP over IPv6 with the field 0000 */
+    TAIL_LENGTH,    /* a datagram doesn't pass that would with the message's length in its pseudo-header */
+    TAIL_SUMMED,    /* or with the tail summed */
+    TAIL_BOTH,      /* or with both */
+    TAIL_OUT,       /* a datagram passes that wouldn't in any of these ways */
+    TAIL_PADS,      /* an odd datagram passes that has another byte than 00 behind it */
+    TAIL_BODY,      /* a stretch is refused that would fit if the tail were body */
     BRANCHES
 };
 static unsigned long met[KINDS][BRANCHES];
@@ -77,11 +85,11 @@ static unsigned equation3(unsigned field, unsigned old, unsigned new)
 }
 
 /* A packet. Its kind says where things stand, and its fault is 6, 7 or 4 if it is a fragment, of another protocol, or
- * of a wrong shape behind its header, and otherwise 0. */
+ * its message is shorter than the fixed header, and otherwise 0. It was built with so many bytes of tail. */
 struct packet {
     const struct kind *kind;
     unsigned fault;
-    size_t header, len;
+    size_t header, len, tail;
     uint8_t bytes[ROOM];
 };
 
@@ -91,6 +99,7 @@ static void copy(struct packet *to, const struct packet *from)
     to->fault = from->fault;
     to->header = from->header;
     to->len = from->len;
+    to->tail = from->tail;
     memcpy(to->bytes, from->bytes, from->len);
 }
 
@@ -104,6 +113,12 @@ static size_t message_len(const struct packet *p)
     return p->len - p->header;
 }
 
+/* How much of the message is covered: what UDP says of its datagram, and of others all. */
+static size_t covered_len(const struct packet *p)
+{
+    return p->kind->protocol == UDP ? word(p->bytes + p->header + 4) : message_len(p);
+}
+
 static uint8_t *field_of(struct packet *p)
 {
     return p->bytes + p->header + p->kind->field;
@@ -114,20 +129,30 @@ static size_t body_of(const struct packet *p)
     return p->header + (p->kind->protocol == TCP ? p->bytes[p->header + 12] / 16 * 4u : p->kind->fixed);
 }
 
-/* Lays out the covered block and answers its length. */
-static size_t block(const struct packet *p, uint8_t *out)
+/* The refusal of a packet's shape: its fault, or 4 if TCP's data offset or UDP's length is below the fixed header's
+ * length or past the message. */
+static unsigned refused(const struct packet *p)
 {
-    size_t size = 0, len = message_len(p);
+    size_t said = p->kind->protocol == TCP ? body_of(p) - p->header : covered_len(p);
+    if (p->fault != 0)
+        return p->fault;
+    return said < p->kind->fixed || said > message_len(p) ? 4 : 0;
+}
+
+/* Lays out the block of so many bytes of message, with a length for its pseudo-header, and answers how long it is. */
+static size_t block(const struct packet *p, size_t len, size_t length, uint8_t *out)
+{
+    size_t size = 0;
     if (p->kind->family == 4 && p->kind->protocol != ICMP) {
         memcpy(out, p->bytes + 12, 8);
         out[8] = 0;
         out[9] = (uint8_t)p->kind->protocol;
-        put(out + 10, len);
+        put(out + 10, length);
         size = 12;
     } else if (p->kind->family == 6) {
         memcpy(out, p->bytes + 8, 32);
         memset(out + 32, 0, 8);
-        put(out + 34, len);
+        put(out + 34, length);
         out[39] = (uint8_t)p->kind->protocol;
         size = 40;
     }
@@ -135,15 +160,41 @@ static size_t block(const struct packet *p, uint8_t *out)
     return size + len;
 }
 
-static unsigned long message_total(const struct packet *p)
+/* The total of what is covered. Or what it would be with the message's length in the pseudo-header (1), with the tail
+ * summed (2), or with both (3). */
+enum { RIGHT, LENGTH, SUMMED, BOTH };
+static unsigned long total_read(const struct packet *p, unsigned how)
 {
     static uint8_t covered[ROOM + 40];
-    return total(covered, block(p, covered));
+    size_t len = how & SUMMED ? message_len(p) : covered_len(p);
+    size_t length = how & LENGTH ? message_len(p) : covered_len(p);
+    return total(covered, block(p, len, length, covered));
+}
+
+static unsigned long message_total(const struct packet *p)
+{
+    return total_read(p, RIGHT);
 }
 
 static int passes(unsigned long sum)
 {
     return sum > 0 && sum % 65535 == 0;
+}
+
+/* Looks which branches a judged message with a tail takes. */
+static void meet_tail(const struct packet *p, int passed)
+{
+    size_t covered = covered_len(p);
+    int others = 0;
+    if (covered == message_len(p))
+        return;
+    for (unsigned how = LENGTH; how <= BOTH; how++) {
+        int other = passes(total_read(p, how));
+        meet(p, TAIL_LENGTH + how - LENGTH, !passed && other);
+        others |= other;
+    }
+    meet(p, TAIL_OUT, passed && !others);
+    meet(p, TAIL_PADS, passed && covered % 2 == 1 && p->bytes[p->header + covered] != 0);
 }
 
 static int silent(struct packet *p)
@@ -161,12 +212,14 @@ static unsigned judge(struct packet *p)
         meet(p, HEADER_ZERO, word(p->bytes + 10) == 0);
         meet(p, HEADER_FULL, word(p->bytes + 10) == 0xFFFF);
     }
-    if (p->fault != 0)
-        return p->fault;
+    if (refused(p))
+        return refused(p);
     if (silent(p))
         return p->kind->family == 4 ? 1 : 8;
-    meet(p, TOTAL_ZERO, message_total(p) == 0);
-    if (!passes(message_total(p)))
+    unsigned long sum = message_total(p);
+    meet(p, TOTAL_ZERO, sum == 0);
+    meet_tail(p, passes(sum));
+    if (!passes(sum))
         return 9;
     meet(p, PASSES_ZERO, word(field_of(p)) == 0);
     meet(p, PASSES_FULL, word(field_of(p)) == 0xFFFF);
@@ -175,8 +228,8 @@ static unsigned judge(struct packet *p)
 
 static unsigned mend(struct packet *p)
 {
-    if (p->fault != 0)
-        return p->fault;
+    if (refused(p))
+        return refused(p);
     if (p->kind->family == 4) {
         put(p->bytes + 10, 0);
         put(p->bytes + 10, 65535 - fold(total(p->bytes, p->header)));
@@ -223,8 +276,8 @@ static unsigned lower(struct packet *p)
     uint8_t *lifetime = p->bytes + (p->kind->family == 4 ? 8 : 7), less = (uint8_t)(*lifetime - 1);
     if (*lifetime < 2)
         return 11;
-    meet(p, LOWERED_FAULT, p->fault != 0);
-    meet(p, LOWERED_SILENT, p->fault == 0 && p->kind->family == 6 && silent(p));
+    meet(p, LOWERED_FAULT, refused(p));
+    meet(p, LOWERED_SILENT, !refused(p) && p->kind->family == 6 && silent(p));
     renew_header(p, 8, lifetime, &less, 1);
     *lifetime = less;
     return 0;
@@ -234,8 +287,8 @@ static unsigned set_address(struct packet *p, unsigned side, const uint8_t *new)
 {
     size_t size = p->kind->family == 4 ? 4 : 16;
     uint8_t *at = p->bytes + (p->kind->family == 4 ? 12 : 8) + side * size;
-    if (p->fault != 0)
-        return p->fault;
+    if (refused(p))
+        return refused(p);
     if (p->kind->family == 6 && silent(p))
         return 8;
     renew_header(p, 12, at, new, size);
@@ -259,11 +312,13 @@ static unsigned set_stretch(struct packet *p, size_t place, const uint8_t *new, 
 {
     static struct packet after;
     uint8_t *at = p->bytes + body_of(p) + place;
-    if (p->fault != 0)
-        return p->fault;
+    if (refused(p))
+        return refused(p);
     if (p->kind->family == 6 && silent(p))
         return 8;
-    if (place + len > p->len - body_of(p))
+    int past = place + len > p->header + covered_len(p) - body_of(p);
+    meet(p, TAIL_BODY, past && place + len <= p->len - body_of(p));
+    if (past)
         return 10;
     if (len == 0)
         return 0;
