@@ -3,7 +3,8 @@
  * Each call is made three times: over buffers with guard bytes on both sides, over buffers at odd
  * addresses, and over buffers that end where memory that can't be touched begins. The three must
  * agree, no guard byte may change, and a refused call may change nothing at all. An empty buffer is
- * a null pointer in the first. What is wanted is the rules paper's or comes from the sums below.
+ * a null pointer in the first. Tails inside a packet also lie in memory that can't be touched. What
+ * is wanted is the rules paper's or comes from the sums below.
  */
 #define _DEFAULT_SOURCE
 #include <stdio.h>
@@ -260,16 +261,34 @@ static void join(uint16_t fold_a, uint64_t length_a, uint16_t fold_b, uint64_t l
     }
 }
 
-/* What a message's own sum comes to, its field included. */
-static unsigned message_sum(const uint8_t *packet)
+/* Where a message begins, and how long it is. */
+static size_t start_of(const uint8_t *packet)
+{
+    return packet[0] >> 4 == 4 ? 4u * (packet[0] & 15) : 40;
+}
+
+static size_t message_of(const uint8_t *packet)
+{
+    return packet[0] >> 4 == 4 ? word(packet + 2) - start_of(packet) : word(packet + 4);
+}
+
+/* What so many bytes of message sum to, the field included, with a length in the pseudo-header. */
+static unsigned sum_of(const uint8_t *packet, size_t len, size_t length)
 {
     int four = packet[0] >> 4 == 4;
-    size_t start = four ? 4u * (packet[0] & 15) : 40, end = four ? word(packet + 2) : 40 + word(packet + 4);
     unsigned protocol = four ? packet[9] : packet[6];
-    unsigned long total = weigh(packet + start, end - start);
+    unsigned long total = weigh(packet + start_of(packet), len);
     if (protocol != 1)
-        total += weigh(packet + (four ? 12 : 8), four ? 8 : 32) + protocol + (end - start);
+        total += weigh(packet + (four ? 12 : 8), four ? 8 : 32) + protocol + length;
     return fold(total);
+}
+
+/* What a message's own sum comes to. UDP says how long it is. */
+static unsigned message_sum(const uint8_t *packet)
+{
+    int udp = (packet[0] >> 4 == 4 ? packet[9] : packet[6]) == 17;
+    size_t len = udp ? word(packet + start_of(packet) + 4) : message_of(packet);
+    return sum_of(packet, len, len);
 }
 
 /* Builds a packet of a family and protocol whose message has so many bytes, all fields 0000, the
@@ -743,7 +762,7 @@ static void unjudged(void)
                  {4, 17, 0, 0, 0}, {4, 17, 7, 0, 0}, {6, 6, 0, 0, 0}, {6, 6, 19, 0, 0},
                  {6, 17, 0, 0, 0}, {6, 17, 7, 0, 0}, {6, 58, 0, 0, 0}, {6, 58, 3, 0, 0},
                  {4, 6, 27, 12, 0x40}, {4, 6, 27, 12, 0x70}, {6, 6, 27, 12, 0x00}, {6, 6, 27, 12, 0xF0},
-                 {4, 17, 12, 5, 11}, {4, 17, 12, 5, 13}, {6, 17, 12, 5, 11}, {6, 17, 12, 5, 13}};
+                 {4, 17, 12, 5, 7}, {4, 17, 12, 5, 13}, {6, 17, 12, 5, 7}, {6, 17, 12, 5, 13}};
     for (size_t i = 0; i < sizeof wrong / sizeof *wrong; i++) {
         size_t len = packet_of(p, wrong[i].family, wrong[i].protocol, wrong[i].message);
         if (wrong[i].at != 0)
@@ -1036,6 +1055,266 @@ static void fields_at_ffff(void)
     updated(len, 22, 0, 1);
 }
 
+/* UDP datagrams that end before their message does: what follows is a tail, inside the packet. */
+
+static const uint8_t new_bytes[128] = {0xFD, 7, 0x80, 0xFF, 1, [9] = 0x7F, 0xC3, [15] = 9, 0xFF, 0xFF, 2, [40] = 0xA1};
+
+/* The UDP field for what sums to this without it. */
+static size_t field_for(unsigned sum)
+{
+    return sum == 0xFFFF ? 0xFFFF : 65535 - sum;
+}
+
+/* Sets both fields of a UDP packet fresh. */
+static void freshen(uint8_t *packet)
+{
+    uint8_t *field = packet + start_of(packet) + 6;
+    fresh_header(packet);
+    put(field, 0);
+    put(field, field_for(message_sum(packet)));
+}
+
+/* p becomes good UDP with so many bytes of options (IPv4 alone), of datagram, and of tail inside the packet. */
+static size_t datagram_of(int family, size_t options, size_t datagram, size_t tail)
+{
+    size_t len = packet_of(p, family, 17, options + datagram + tail);
+    p[0] = (uint8_t)(p[0] + options / 4);
+    put(p + start_of(p) + 4, datagram);
+    freshen(p);
+    return len;
+}
+
+/* Each call on p, which is good. The bytes wanted are those of q, whose fields are worked out here. */
+static void each_call(size_t len)
+{
+    size_t four = p[0] >> 4 == 4, start = start_of(p), body = word(p + start + 4) - 8, place = body / 3;
+    memcpy(q, p, len);
+    expect(judge(p, len), 0, "judge a datagram before a tail");
+    put(p + start + 6, 0x1234);
+    if (four)
+        put(p + 10, 0x1234);
+    expect(mend(p, len), 0, "mend it");
+    check(memcmp(p, q, len) == 0, "what mending gives");
+    expect(lower(p, len), 0, "lower it");
+    q[four ? 8 : 7]--;
+    fresh_header(q);
+    check(memcmp(p, q, len) == 0, "what lowering gives");
+    for (size_t side = 0; side < 2; side++) {
+        size_t size = four ? 4 : 16;
+        expect(call(ADDRESS, p, len, side, new_bytes + side, size), 0, "a new address");
+        memcpy(q + (four ? 12 : 8) + side * size, new_bytes + side, size);
+        freshen(q);
+        check(memcmp(p, q, len) == 0, "what a new address gives");
+    }
+    expect(call(STRETCH, p, len, place, new_bytes, body - place), 0, "a stretch to the datagram's end");
+    memcpy(q + start + 8 + place, new_bytes, body - place);
+    freshen(q);
+    check(memcmp(p, q, len) == 0, "what a stretch gives");
+}
+
+/* What doesn't fit the body of good p, though it fits the packet; and what of p is judged. */
+static void end_of_body(size_t len)
+{
+    size_t start = start_of(p), body = word(p + start + 4) - 8, tail = message_of(p) - 8 - body;
+    expect(call(STRETCH, p, len, body, NULL, 0), 0, "nothing at the datagram's end");
+    expect(call(STRETCH, p, len, body + 1, NULL, 0), 10, "nothing in the tail");
+    expect(call(STRETCH, p, len, body, new_bytes, 1), 10, "a stretch in the tail");
+    expect(call(STRETCH, p, len, body, new_bytes, tail), 10, "the whole tail");
+    expect(call(STRETCH, p, len, 0, new_bytes, body + 1), 10, "a stretch into the tail");
+    expect(call(STRETCH, p, len, 0, new_bytes, body + tail), 10, "body and tail");
+    p[start + 8 + body] ^= 0x10;
+    expect(judge(p, len), 0, "the tail's first byte isn't judged");
+    p[start + 7 + body + tail] ^= 0x10;
+    expect(judge(p, len), 0, "nor its last");
+    p[start + 7 + body] ^= 0x10;
+    expect(judge(p, len), 9, "the datagram's last byte is");
+}
+
+/* p without a sum: IPv4's field stays so, IPv6's is filled in by the mender and stops the edits. */
+static void without_sum(size_t len)
+{
+    size_t four = p[0] >> 4 == 4, start = start_of(p), body = word(p + start + 4) - 8;
+    put(p + start + 6, 0);
+    memcpy(q, p, len);
+    expect(judge(p, len), four ? 1 : 8, "judge no sum before a tail");
+    expect(call(STRETCH, p, len, body, new_bytes, 1), four ? 10 : 8, "a stretch in the tail");
+    expect(call(STRETCH, p, len, 0, new_bytes, body), four ? 0 : 8, "a whole new body");
+    expect(call(ADDRESS, p, len, 1, new_bytes, four ? 4 : 16), four ? 0 : 8, "a new destination");
+    if (four) {
+        memcpy(q + 16, new_bytes, 4);
+        memcpy(q + start + 8, new_bytes, body);
+        fresh_header(q);
+    }
+    check(memcmp(p, q, len) == 0, "what these give");
+    expect(mend(p, len), 0, "mend no sum before a tail");
+    if (!four)
+        freshen(q);
+    check(memcmp(p, q, len) == 0, "what mending gives");
+}
+
+/* Tails of each length, as built, of FF and of zeros, behind odd and even datagrams, with other tails behind the packet
+ * and without. */
+static void tails(void)
+{
+    static const size_t datagrams[] = {8, 9, 10, 15, 38, 71};
+    for (size_t i = 0; i < 2 * 6 * 40; i++) {
+        size_t datagram = datagrams[i / 80], tail = 1 + i / 2 % 40, four = i % 2, behind = i % 5;
+        size_t len = datagram_of(four ? 4 : 6, four ? i % 11 * 4 : 0, datagram, tail);
+        if (i / 2 % 3 != 0)
+            memset(p + len - tail, i / 2 % 3 == 1 ? 0xFF : 0, tail);
+        memset(p + len, 0xEE, behind);
+        each_call(len + behind);
+        end_of_body(len + behind);
+        freshen(p);
+        without_sum(len + behind);
+    }
+}
+
+/* UDP's length: from 8 up to the message's it fits, and otherwise it is 4, also where there is no sum. A message under
+ * 8 bytes is 4 whatever it says, though a tail behind the packet has what it lacks. */
+static void said_lengths(void)
+{
+    static const size_t messages[] = {8, 9, 21, 46};
+    for (size_t i = 0; i < 2 * 4 * 20; i++) {
+        size_t message = messages[i / 40], four = i / 20 % 2, len = datagram_of(four ? 4 : 6, 0, 8, message - 8);
+        size_t said[20] = {0, 1, 6, 7, 8, 9, 10, 0xFF, 0x100, 0x0800, 0x8008, 0xFF08, 0xFFFE, 0xFFFF,
+                           message - 2, message - 1, message, message + 1, message + 2, message + 256};
+        put(p + start_of(p) + 4, said[i % 20]);
+        if (said[i % 20] >= 8 && said[i % 20] <= message) {
+            freshen(p);
+            expect(judge(p, len), 0, "judge a length that fits");
+            without_sum(len);
+        } else {
+            passed_over(len, 4);
+            put(p + start_of(p) + 6, 0);
+            passed_over(len, 4);
+        }
+    }
+    for (size_t i = 0; i < 2 * 8 * 9; i++) {
+        size_t message = i / 2 % 8, said = i / 16, four = i % 2, len = packet_of(p, four ? 4 : 6, 17, 16);
+        put(p + (four ? 2 : 4), four ? 20 + message : message);
+        put(p + start_of(p) + 4, said);
+        expect(lower(p, len), 0, "lower what is short");
+        fresh_header(p);
+        expect(judge(p, len), 4, "judge what is short");
+        expect(mend(p, len), 4, "mend what is short");
+        expect(call(ADDRESS, p, len, 0, new_bytes, four ? 4 : 16), 4, "a new source of what is short");
+        expect(call(STRETCH, p, len, 0, NULL, 0), 4, "nothing in what is short");
+    }
+}
+
+/* Ways to misread a tail: the message's length in the pseudo-header, the tail summed, both, or its first byte summed,
+ * as if it padded an odd datagram. */
+enum misreading { LENGTH = 1, SUMMED, BOTH, PADDING };
+
+static unsigned misread_sum(enum misreading how)
+{
+    size_t said = word(p + start_of(p) + 4), message = message_of(p);
+    size_t len = how == LENGTH ? said : how == PADDING ? said + 1 : message;
+    return sum_of(p, len, how == LENGTH || how == BOTH ? message : said);
+}
+
+/* p has a sum that is right only if the tail is misread: it is wrong, an edit leaves it so, and the mender doesn't. */
+static void tempting(size_t len)
+{
+    size_t four = p[0] >> 4 == 4;
+    expect(judge(p, len), 9, "judge a sum that a tail would make right");
+    expect(lower(p, len), 0, "lower it");
+    expect(call(ADDRESS, p, len, 0, new_bytes, four ? 4 : 16), 0, "a new source");
+    expect(call(STRETCH, p, len, 0, new_bytes, 1), 0, "a stretch");
+    expect(judge(p, len), 9, "it stays wrong");
+    memcpy(q, p, len);
+    freshen(q);
+    expect(mend(p, len), 0, "mend it");
+    check(memcmp(p, q, len) == 0, "what mending gives");
+}
+
+/* Fields that a misreading makes right; and damaged datagrams, each with a tail that makes the sum right again. */
+static void misreadings(void)
+{
+    static const size_t datagrams[] = {9, 14, 31};
+    for (size_t i = 0; i < 2 * 3 * 40 * 4; i++) {
+        enum misreading how = 1 + i % 4;
+        size_t tail = 1 + i / 4 % 40, datagram = datagrams[i / 160 % 3], four = i / 480;
+        size_t len = datagram_of(four ? 4 : 6, 0, datagram, tail), start = start_of(p);
+        if (how == PADDING)
+            memset(p + len - tail, 0xFF, tail);
+        put(p + start + 6, 0);
+        put(p + start + 6, field_for(misread_sum(how)));
+        tempting(len);
+        if (how == LENGTH || how == PADDING || tail < 3)
+            continue;
+        datagram_of(four ? 4 : 6, 0, datagram, tail);
+        p[start + 1] ^= 0x10;
+        uint8_t *at = p + start + datagram + datagram % 2;
+        put(at, 0);
+        put(at, 65535 - misread_sum(how));
+        tempting(len);
+    }
+}
+
+/* Tails in memory that can't be touched: a call that looked at a byte of one would end the program. */
+static void untouched(void)
+{
+    static const size_t datagrams[] = {8, 9, 38, 71, 1001}, lengths[] = {1, 2, 7, 8, 40, 1000};
+    for (size_t i = 0; i < 2 * 5 * 6; i++) {
+        size_t tail = lengths[i % 6], datagram = datagrams[i / 6 % 5], four = i / 30, size = four ? 4 : 16, count = 77;
+        size_t len = datagram_of(four ? 4 : 6, 0, datagram, tail), own = len - tail, start = start_of(p);
+        size_t body = datagram - 8, some = body < 100 ? body : 100;
+        uint8_t *at = first.map + SPACE - own, verdict = 77;
+        memcpy(at, p, own);
+        put(at + start + 6, 0x1234);
+        expect(hifrostum_judge(at, len), 9, "judge before an untouchable tail");
+        expect(hifrostum_mend(at, len), 0, "mend before it");
+        check(memcmp(at, p, own) == 0, "what mending gives");
+        expect(hifrostum_lower_lifetime(at, len), 0, "lower before it");
+        expect(hifrostum_set_address(at, len, 0, new_bytes, size), 0, "a new source before it");
+        expect(hifrostum_set_stretch(at, len, body - some, new_bytes, some), 0, "a stretch before it");
+        expect(hifrostum_set_stretch(at, len, body, new_bytes, 1), 10, "a stretch in it");
+        p[four ? 8 : 7]--;
+        memcpy(p + (four ? 12 : 8), new_bytes, size);
+        memcpy(p + own - some, new_bytes, some);
+        freshen(p);
+        check(memcmp(at, p, own) == 0, "what these give");
+        memcpy(at - 7, glr, 5);
+        put(at - 2, len);
+        expect(hifrostum_judge_capture(at - 7, 7 + len, &verdict, 1, &count), 0, "a capture that ends with it");
+        expect(count, 1, "its count");
+        expect(verdict, 0, "its verdict");
+    }
+}
+
+/* A capture of datagrams in messages of 30 bytes, over IPv4 and IPv6 in turn, with tails behind the packets too. */
+static void tail_captures(void)
+{
+    enum { NONE, RIGHT, WRONG };
+    static const struct {
+        size_t said;
+        int sum;
+        unsigned four, six;
+    } records[] = {{8, RIGHT, 0, 0}, {12, RIGHT, 0, 0}, {13, RIGHT, 0, 0}, {30, RIGHT, 0, 0}, {12, NONE, 1, 8},
+                   {12, WRONG, 9, 9}, {29, WRONG, 9, 9}, {0, WRONG, 4, 4}, {7, NONE, 4, 4}, {31, RIGHT, 4, 4}};
+    enum { RECORDS = sizeof records / sizeof *records };
+    static uint8_t packets[4096], verdicts[2 * RECORDS + 1];
+    size_t end = 5;
+    memcpy(packets, glr, 5);
+    for (size_t i = 0; i < 2 * RECORDS; i++) {
+        size_t len = datagram_of(i % 2 ? 6 : 4, 0, 8, 22) + i % 3;
+        uint8_t *message = p + start_of(p);
+        put(message + 4, records[i / 2].said);
+        freshen(p);
+        if (records[i / 2].sum != RIGHT)
+            put(message + 6, records[i / 2].sum == NONE ? 0 : word(message + 6) ^ 0x100);
+        put(packets + end, len);
+        memcpy(packets + end + 2, p, len);
+        end += 2 + len;
+    }
+    capture(packets, end, verdicts, 2 * RECORDS + 1, 0, 2 * RECORDS);
+    for (size_t i = 0; i < 2 * RECORDS; i++)
+        expect(verdicts[i], i % 2 ? records[i / 2].six : records[i / 2].four, "a record with a tail");
+    capture(packets, end, verdicts, 2 * RECORDS - 1, 16, 0);
+}
+
 static void captures(void)
 {
     static uint8_t verdicts[9];
@@ -1087,7 +1366,7 @@ static void long_capture(void)
     capture(p, len - 1, verdicts, 0, 15, 0);
 }
 
-/* The largest packets that the formats allow, without a tail and with one. */
+/* The largest packets that the formats allow, some with a tail inside, each with a tail behind and without. */
 static void largest(void)
 {
     static const uint8_t new[16] = {0xFD, 7, [15] = 3};
@@ -1097,25 +1376,34 @@ static void largest(void)
     static const struct {
         int family;
         unsigned protocol;
-        size_t message, fixed;
-    } kinds[] = {{4, 1, 65515, 8}, {4, 6, 65515, 20}, {4, 17, 65515, 8},
-                 {6, 6, 65535, 20}, {6, 17, 65535, 8}, {6, 58, 65535, 4}};
+        size_t message, fixed, inside;
+    } kinds[] = {{4, 1, 65515, 8, 0}, {4, 6, 65515, 20, 0}, {4, 17, 65515, 8, 0}, {4, 17, 65515, 8, 1},
+                 {4, 17, 65515, 8, 65000}, {6, 6, 65535, 20, 0}, {6, 17, 65535, 8, 0}, {6, 17, 65535, 8, 1},
+                 {6, 17, 65535, 8, 65000}, {6, 58, 65535, 4, 0}};
     for (size_t i = 0; i < 2 * sizeof kinds / sizeof *kinds; i++) {
-        size_t message = kinds[i / 2].message, body_len = message - kinds[i / 2].fixed;
+        size_t message = kinds[i / 2].message, inside = kinds[i / 2].inside;
+        size_t body_len = message - kinds[i / 2].fixed - inside;
         size_t len = packet_of(p, kinds[i / 2].family, kinds[i / 2].protocol, message);
-        size_t tail = i % 2 ? 100000 : 0;
-        memset(p + len, 0xEE, tail);
+        size_t tail = i % 2 ? 100000 : 0, end = len - inside;
+        int kept = 1;
+        if (inside > 0)
+            put(p + start_of(p) + 4, message - inside);
+        memset(p + end, 0xEE, inside + tail);
         expect(mend(p, len + tail), 0, "mend the largest");
         expect(message_sum(p), 0xFFFF, "the largest sums right");
         expect(lower(p, len + tail), 0, "lower the largest");
         expect(call(ADDRESS, p, len + tail, 1, new, kinds[i / 2].family == 4 ? 4 : 16), 0, "a new destination");
         expect(call(STRETCH, p, len + tail, 1, body, body_len - 1), 0, "a whole new body but one byte");
         expect(call(STRETCH, p, len + tail, 1, body, body_len), 10, "one byte too many");
-        check(memcmp(p + len - body_len + 1, body, body_len - 1) == 0, "in place");
+        check(memcmp(p + end - body_len + 1, body, body_len - 1) == 0, "in place");
         expect(message_sum(p), 0xFFFF, "it still sums right");
         expect(judge(p, len + tail), 0, "judge the largest");
         expect(judge(p, len - 1), 2, "one byte short");
-        p[len - 1] ^= 4;
+        for (size_t at = end; at < len + tail; at++)
+            kept &= p[at] == 0xEE;
+        if (inside + tail > 0)
+            check(kept, "the tails");
+        p[end - 1] ^= 4;
         expect(judge(p, len + tail), 9, "its last byte damaged");
     }
 }
@@ -1161,6 +1449,12 @@ int main(void)
     full_addresses();
     fields_at_ffff();
     group("fields at FFFF");
+    tails();
+    said_lengths();
+    misreadings();
+    untouched();
+    tail_captures();
+    group("datagrams before a tail");
     captures();
     long_capture();
     group("judge_capture");
