@@ -149,6 +149,63 @@ bytes "$head" \
     001C "$(echo "$echo4" | sed 's/40 01 66DF/3F 01 67D8/; s/0A000002/0A000009/')" >"$dir/want"
 same 'dropped fragments: what it writes' "$(od -An -tx1 -v "$dir/want")" "$(od -An -tx1 -v "$dir/out")"
 
+# A recorder's packets, with bytes behind the UDP datagram and inside the packet: they go on as they came. Datagrams are
+# even, odd with FF behind, and empty; one has no sum, and one a tail behind the packet too.
+even4="4500 0021 0000 4000 40 11 B8B3 $from4 1388 1389 000A 0E47 4869 FF0102"
+odd4="4500 0021 0000 4000 40 11 B8B3 $from4 1388 1389 000B ED44 486921 FFFF"
+empty4="4500 001F 0000 4000 40 11 B8B5 $from4 1388 1389 0008 56B4 486921"
+odd6="60000000 000E 11 40 $one $one 1388 1389 000B 6F5C 486921 FF0055"
+bytes "$head" 0021 "$even4" 0021 "$odd4" 001F "$empty4" 0036 "$odd6" \
+    0021 "$(echo "$odd4" | sed 's/ED44/0000/')" 0023 "$even4" AA55 >"$dir/in"
+verdicts='record 1 verdict 0
+record 2 verdict 0
+record 3 verdict 0
+record 4 verdict 0
+record 5 verdict 1
+record 6 verdict 0
+records 6 good 5 unsummed 1 refused 0'
+same 'trailing areas: judged before' "$verdicts" "$("$x86" run "$judge_capture" <"$dir/in")"
+to4='s/40 11 B8B3/3F 11 711A/; s/40 11 B8B5/3F 11 711C/; s/C0A800C7/0A000009/'
+bytes "$head" \
+    0021 "$(echo "$even4" | sed "$to4; s/0E47/C5AD/")" \
+    0021 "$(echo "$odd4" | sed "$to4; s/ED44/A4AB/")" \
+    001F "$(echo "$empty4" | sed "$to4; s/56B4/0E1B/")" \
+    0036 "$(echo "$odd6" | sed 's/11 40/11 3F/')" \
+    0021 "$(echo "$odd4" | sed "$to4; s/ED44/0000/")" \
+    0023 "$(echo "$even4" | sed "$to4; s/0E47/C5AD/")" AA55 >"$dir/want4"
+hop='s/40 11 B8B/3F 11 B9B/'
+bytes "$head" \
+    0021 "$(echo "$even4" | sed "$hop")" \
+    0021 "$(echo "$odd4" | sed "$hop")" \
+    001F "$(echo "$empty4" | sed "$hop")" \
+    0036 "60000000 000E 11 3F $one 20010DB8000000000000000000000009 1388 1389 000B 419B 486921 FF0055" \
+    0021 "$(echo "$odd4" | sed "$hop; s/ED44/0000/")" \
+    0023 "$(echo "$even4" | sed "$hop")" AA55 >"$dir/want6"
+for to in 4:10.0.0.9 6:2001:db8::9; do
+    relay "${to#*:}"
+    same "trailing areas, IPv${to%%:*}: exit status" 0 "$status"
+    same "trailing areas, IPv${to%%:*}: what it says" 'hut: records 6 relayed 6 dropped 0' "$(cat "$dir/said")"
+    same "trailing areas, IPv${to%%:*}: what it writes" \
+        "$(od -An -tx1 -v "$dir/want${to%%:*}")" "$(od -An -tx1 -v "$dir/out")"
+    same "trailing areas, IPv${to%%:*}: judged" "$verdicts" "$("$x86" run "$judge_capture" <"$dir/out")"
+done
+
+# What drops such a packet: a length below 8 or past the message, no sum over IPv6, a damaged datagram; and one whose sum
+# would be right again if the bytes behind it were summed, with the datagram's length before it or with the message's.
+bytes "$head" \
+    0021 "$(echo "$even4" | sed 's/000A/0007/')" \
+    0021 "$(echo "$even4" | sed 's/000A/000E/')" \
+    0036 "$(echo "$odd6" | sed 's/6F5C/0000/')" \
+    0036 "$(echo "$odd6" | sed 's/486921/486920/')" \
+    0021 "$(echo "$even4" | sed 's/4869 FF0102/4868 000100/')" \
+    0021 "$(echo "$even4" | sed 's/4869 FF0102/4868 FFFD00/')" >"$dir/in"
+relay 10.0.0.9
+same 'dropped trailing areas: exit status' 0 "$status"
+same 'dropped trailing areas: what it says' 'hut: dropped 2: shape
+hut: dropped 1: missing
+hut: dropped 3: message sum
+hut: records 6 relayed 0 dropped 6' "$(cat "$dir/said")"
+
 # Damaged input: said in words, exit status 1, and what was relayed before is a whole capture.
 damaged() { # WORDS HEX..
     words=$1
