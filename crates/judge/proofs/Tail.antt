@@ -1,61 +1,63 @@
 -- The tail is neither judged nor read: packets that agree up to it have the same verdict.
-use mathlib.Core.Path.{_≡_, ap, _∙_}
-use Prim.Native.Nat.{ℕ, _<_, _≤_}
+use mathlib.Core.Path.{_≡_, refl}
+use Prim.Native.Nat.{ℕ}
 use native.Mathlib.Omega.{arith}
 use mathlib.Core.List.{List, _++_}
-use lib.ListN.{length, length-append, List·getD-append}
+use lib.ListN.{length-append, List·getD-append}
 use Rattle.verdicts.specs.Rules.{clear}
-use Rattle.wire.specs.Bytes.{byteAt, part}
-use Rattle.wire.specs.Outer.{headerEnd, declaredEnd, addressesAt, addressesLength, outerRules}
-use Rattle.wire.specs.Inner.{startOf, endOf, lengthOf, messageBytes, silentOf, wholeRules, tailAt, headerBytes, addressesOf}
-use Rattle.wire.proofs.Facts.{Facts, outer-facts}
-use Rattle.wire.proofs.Same.{SameLayout, four-same, family-same, header-end-same, protocol-same, start-same, end-same}
+use Rattle.wire.specs.Outer.{headerEnd, addressesAt, addressesLength, outerRules}
+use Rattle.wire.specs.Inner.{startOf, endOf, lengthOf, messageBytes, silentOf, wholeRules, tailAt, UpToTail, addressesOf}
+use Rattle.wire.proofs.Facts.{outer-facts}
+use Rattle.wire.proofs.Writes.{agree-part}
+use Rattle.wire.proofs.Same.{four-same, family-same, header-end-same, protocol-same, start-same, end-same}
 use Rattle.wire.proofs.Held.{clear-carries, whole-facts}
-use Rattle.wire.proofs.Tails.{tail-end, tail-order, before-tail, part-before}
+use Rattle.wire.proofs.Tails.{tail-end, tail-order, tail-layout, tail-agree}
 use Rattle.cover.specs.Sums.{headerTotal, messageTotal, headerSums, messageSums}
 use Rattle.judge.specs.Judge.{judgeOf}
-use Rattle.judge.proofs.Kept.{Heard, judge-kept}
+use Rattle.judge.proofs.Kept.{judge-kept}
 
-module _ (p q : List ℕ) (c : clear (outerRules p)) (long : declaredEnd p ≤ length q) (same : (i : ℕ) → i < tailAt p → byteAt q i ≡ byteAt p i) where
-  like : SameLayout p q
-  like = before-tail p q c long same
-
-  header-kept : headerSums q ≡ headerSums p
-  unfolding headerSums headerTotal
-  header-kept =
-      let o = tail-order (outer-facts p c) in
-      let e : headerBytes q ≡ headerBytes p = ap (part q 0) (header-end-same (like .header)) ∙ part-before p q c long same 0 (headerEnd p) (omega arith) in
-      rw (four-same (like .header), e)
+module _ {p q : List ℕ} (a : UpToTail p q) where
+  pub tail-header : headerTotal q ≡ headerTotal p
+  unfolding headerTotal
+  tail-header =
+      let o = tail-order (outer-facts p (a .outer)) in
+      rw (header-end-same (tail-layout a .header), agree-part (tail-agree a) 0 (headerEnd p) (omega arith))
 
   -- what the message's rules look at, where there is a message
-  module _ (k : Facts p) (ends : tailAt p ≡ endOf p) where
-    bytes-kept : messageBytes q ≡ messageBytes p
-    bytes-kept = rw (start-same (like .header), end-same like) (part-before p q c long same (startOf p) (lengthOf p) (omega arith))
+  module _ (w : clear (wholeRules p)) where
+    ends : tailAt p ≡ endOf p
+    ends = tail-end p (clear-carries p w)
 
-    addresses-kept : addressesOf q ≡ addressesOf p
-    addresses-kept = rw (four-same (like .header)) (part-before p q c long same (addressesAt p) (addressesLength p) (omega arith))
+    bytes : messageBytes q ≡ messageBytes p
+    bytes =
+        let k = whole-facts p w in
+        let e = ends in
+        rw (start-same (tail-layout a .header), end-same (tail-layout a)) (agree-part (tail-agree a) (startOf p) (lengthOf p) (omega arith))
 
-    silent-kept : silentOf q ≡ silentOf p
+    addresses : addressesOf q ≡ addressesOf p
+    addresses =
+        let k = whole-facts p w in
+        let e = ends in
+        rw (four-same (tail-layout a .header)) (agree-part (tail-agree a) (addressesAt p) (addressesLength p) (omega arith))
+
+    pub tail-silent : silentOf q ≡ silentOf p
     unfolding silentOf
-    silent-kept = rw (family-same (like .header), protocol-same (like .header), bytes-kept)
+    tail-silent = rw (family-same (tail-layout a .header), protocol-same (tail-layout a .header), bytes)
 
-    sums-kept : messageSums q ≡ messageSums p
-    unfolding messageSums messageTotal
-    sums-kept = rw (family-same (like .header), protocol-same (like .header), addresses-kept, bytes-kept)
+    pub tail-message : messageTotal q ≡ messageTotal p
+    unfolding messageTotal
+    tail-message = rw (family-same (tail-layout a .header), protocol-same (tail-layout a .header), addresses, bytes)
 
-  heard : clear (wholeRules p) → Heard p q
-  heard w =
-      let k = whole-facts p w in
-      let e = tail-end p (clear-carries p w) in
-      record { silent = silent-kept k e; sums = λ u. sums-kept k e }
-
--- q has at least the bytes that p declares, and before p's tail the same ones
-pub tail-unread : (p q : List ℕ) → clear (outerRules p) → declaredEnd p ≤ length q → ((i : ℕ) → i < tailAt p → byteAt q i ≡ byteAt p i) → judgeOf q ≡ judgeOf p
-tail-unread p q c long same = judge-kept (like p q c long same) (header-kept p q c long same) (heard p q c long same)
+  -- neither the bytes of the tail nor their number count
+  pub tail-unread : judgeOf q ≡ judgeOf p
+  unfolding headerSums messageSums
+  tail-unread =
+      judge-kept (tail-layout a) (rw (four-same (tail-layout a .header), tail-header))
+      (λ w. record { silent = tail-silent w; sums = λ u. rw (tail-message w) refl })
 
 -- so bytes behind a packet change nothing
 pub tail-added : (p tail : List ℕ) → clear (outerRules p) → judgeOf (p ++ tail) ≡ judgeOf p
 tail-added p tail c =
     let k = outer-facts p c in
     let o = tail-order k in
-    tail-unread p (p ++ tail) c (omega (arith, length-append p tail)) (λ i h. List·getD-append p tail 0 i (omega arith))
+    tail-unread (record { outer = c; long = omega (arith, length-append p tail); same = λ i h. List·getD-append p tail 0 i (omega arith) })

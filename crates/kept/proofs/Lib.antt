@@ -6,6 +6,7 @@ pub mod Changes
 pub mod Single
 pub mod Exactly
 pub mod Sequences
+pub mod Unread
 pub mod Edited
 pub mod Lifetime
 pub mod Examples

@@ -1,8 +1,7 @@
 -- The theorems on any sequence of edits, refused ones included. They ask only that all bytes are bytes.
 use mathlib.Core.Path.{_≡_, refl, sym, _∙_}
-use Prim.Native.Nat.{ℕ, _+_, _-_, _<_, _≤_}
+use Prim.Native.Nat.{ℕ, _+_, _<_, _≤_}
 use native.Mathlib.Omega.{arith}
-use native.Mathlib.Decide.{decLt}
 use mathlib.Core.List.{List, [], _∷_}
 use lib.ListN.{length}
 use Rattle.verdicts.specs.Rules.{first}
@@ -11,7 +10,8 @@ use Rattle.verdicts.specs.declared.Verdict.the-variants.{Good}
 use Rattle.verdicts.proofs.Rules.{first-map, first-either}
 use Rattle.wire.specs.Bytes.{byteAt, put, Bytes}
 use Rattle.wire.specs.Inner.{tailAt}
-use Rattle.wire.proofs.Writes.{put-wrote}
+use Rattle.wire.proofs.Writes.{put-wrote, put-alike}
+use Rattle.wire.proofs.Tails.{tail-same}
 use Rattle.judge.specs.Judge.{judgeOf}
 use Rattle.mend.specs.Fresh.{Sum, Fresh}
 use Rattle.mend.specs.Mend.{mendOf, Outside}
@@ -52,7 +52,7 @@ pub tail-kept : (es : List Edit) (p : List ℕ) (i : ℕ) → Fits es → Bytes 
 tail-kept [] p i f b h = refl
 tail-kept (e ∷ es) p i f b h =
     let s = still e p (f .0) b in
-    tail-kept es (apply e p .1) i (f .1) (s .bytes) (rw (s .tail) h) ∙ tail-stays e p i (f .0) b h
+    tail-kept es (apply e p .1) i (f .1) (s .bytes) (rw (tail-same (s .layout)) h) ∙ tail-stays e p i (f .0) b h
 
 -- an accepted edit's new bytes stand in place until a later one overwrites them
 pub new-stays : (e : Edit) (es : List Edit) (p : List ℕ) → Fits (e ∷ es) → Bytes p → apply e p .0 ≡ Good
@@ -64,20 +64,6 @@ new-stays e es p f b g j h u =
     let at = placeOf e p + j in
     bytes-stay es (apply e p .1) at (f .1) (s .bytes) (s .outside at (k .apart at (omega arith) (omega arith))) u
     ∙ new-stands e p (f .0) b g j h
-
--- new bytes written into two packets that agree at i leave them so
-put-alike : (p r : List ℕ) (at : ℕ) (new : List ℕ) (i : ℕ) → length r ≡ length p → at + length new ≤ length p → byteAt p i ≡ byteAt r i
-    → byteAt (put p at new) i ≡ byteAt (put r at new) i
-put-alike p r at new i l h e =
-    let x = put-wrote p at new h in
-    let y = put-wrote r at new (omega arith) in
-    elim (decLt i at) [
-      | yes g ↦ x .below i g ∙ e ∙ sym (y .below i g)
-      | no g ↦ elim (decLt i (at + length new)) [
-        | yes j ↦ x .inside (i - at) i (omega arith) (omega arith) ∙ sym (y .inside (i - at) i (omega arith) (omega arith))
-        | no j ↦ x .above i (omega arith) ∙ e ∙ sym (y .above i (omega arith))
-      ]
-    ]
 
 record Alike (q r : List ℕ) (i : ℕ) : Type 0 where
   byte : byteAt q i ≡ byteAt r i
@@ -95,7 +81,7 @@ written-alike e p r i f b o a =
     (λ c.
     let k = kept e p f b c in
     record {
-      byte = k .others i o ∙ put-alike p r (placeOf e p) (newOf e p) i (a .long) (k .fits) (a .byte);
+      byte = k .others i o ∙ put-alike p r (placeOf e p) (newOf e p) i (k .fits) (let l = a .long in let g = k .fits in omega arith) (a .byte);
       long = put-wrote r (placeOf e p) (newOf e p) (let l = a .long in let g = k .fits in omega arith) .long ∙ a .long ∙ sym (k .same .long);
     }))
 

@@ -19,9 +19,9 @@ use Rattle.wire.specs.Messages.{shapeRules}
 use Rattle.wire.specs.Inner.{bodyOf, endOf, messageRules, wholeRules, carries, tailAt}
 use Rattle.wire.proofs.Writes.{put-wrote}
 use Rattle.wire.proofs.Facts.{OuterFacts, outer-facts}
-use Rattle.wire.proofs.Same.{same-layout, four-same}
+use Rattle.wire.proofs.Same.{SameLayout, same-layout, same-self, four-same}
 use Rattle.wire.proofs.Held.{carries-clear, clear-carries, carries-same}
-use Rattle.wire.proofs.Tails.{tail-end, tail-order, tail-same}
+use Rattle.wire.proofs.Tails.{tail-end, tail-order}
 use Rattle.judge.specs.Judge.{judgeOf}
 use Rattle.judge.proofs.Kept.{judge-kept}
 use Rattle.mend.specs.Fresh.{Sum, header, message, used, Fresh}
@@ -105,7 +105,7 @@ byte-stays e p i f b o u =
 
 -- ---- the tail
 -- an accepted edit writes before it
-before-tail : (e : Edit) (p : List ℕ) → clear (rulesOf e p) → OuterFacts p × (placeOf e p + length (newOf e p) ≤ tailAt p)
+pub before-tail : (e : Edit) (p : List ℕ) → clear (rulesOf e p) → OuterFacts p × (placeOf e p + length (newOf e p) ≤ tailAt p)
 before-tail lifetime p c =
     let k = outer-facts p (clear-both (outerRules p) (lifetimeRules p) c .0) in
     let o = tail-order k in
@@ -139,7 +139,7 @@ pub record Still (p q : List ℕ) : Type 0 where
   pub fresh : (s : Sum) → Fresh s p → Fresh s q
   pub mended : mendOf p .1 ≡ p → mendOf q .1 ≡ q
   pub long : length q ≡ length p
-  pub tail : tailAt q ≡ tailAt p
+  pub layout : SameLayout p q
   pub outside : (i : ℕ) → Outside p i → Outside q i
   pub uses : (s : Sum) → used s q ≡ used s p
   pub right : (s : Sum) → Right s p → Right s q
@@ -170,7 +170,7 @@ still e p f b =
       fresh = λ s h. h;
       mended = λ h. h;
       long = refl;
-      tail = refl;
+      layout = same-layout (same-self p);
       outside = λ i o. o;
       uses = λ s. refl;
       right = λ s r. r;
@@ -184,7 +184,7 @@ still e p f b =
       fresh = kept-fresh k;
       mended = λ h. mend-fresh (made e p) (k .bytes) .1 (λ c t. kept-fresh k t (mend-fresh p b .0 h (sym (carries-same (same-layout s)) ∙ c) t));
       long = s .long;
-      tail = tail-same (same-layout s);
+      layout = same-layout s;
       outside = λ i o t u. rw (placed-same (s .header) t) (o t (sym (kept-uses k t) ∙ u));
       uses = kept-uses k;
       right = kept-right k;

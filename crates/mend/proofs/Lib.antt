@@ -4,5 +4,6 @@ pub mod Fresh
 pub mod Without
 pub mod Mended
 pub mod Mending
+pub mod Unread
 pub mod Unseen
 pub mod Examples

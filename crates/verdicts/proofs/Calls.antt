@@ -2,7 +2,7 @@
 use mathlib.Core.Path.{_≡_, refl, sym, ap, _∙_}
 use Prim.Native.Nat.{_<_}
 use native.Mathlib.Omega.{arith}
-use mathlib.Core.List.{List, [], _∷_}
+use mathlib.Core.List.{List, [], _∷_, _++_}
 use mathlib.Core.Bool.{true, false}
 use Rattle.verdicts.specs.Numbers.{numberOf}
 use Rattle.verdicts.specs.Rules.{Rule, _⇒_, first, verdictBy, clear}
@@ -44,3 +44,30 @@ module _ {S : Type 0} (rules : List Rule) (p q : S) where
   -- what holds of it before, and of what is made of it where no rule holds, holds of it after
   pub call-either : (P : S → Type 0) → P p → (clear rules → P q) → P (called .1)
   call-either P a b = first-either {A = Verdict × S} (λ x. P (x .1)) rules (λ v. (v, p)) (Good, q) (λ v. a) b
+
+-- ---- two calls
+-- by rules that are the same as far as they are asked: each test where no earlier one holds
+abbrev pub Alike : List Rule → List Rule → Type 0
+Alike [] [] = Unit
+Alike [] (s ∷ others) = ⊥
+Alike (r ∷ rules) [] = ⊥
+Alike ((b ⇒ v) ∷ rules) ((c ⇒ w) ∷ others) = (c ≡ b) × (w ≡ v) × (b ≡ false → Alike rules others)
+
+pub alike-self : (rules : List Rule) → Alike rules rules
+alike-self [] = tt
+alike-self ((b ⇒ v) ∷ rules) = (refl, refl, λ f. alike-self rules)
+
+pub alike-append : (rules others more also : List Rule) → Alike rules others → (clear rules → Alike more also) → Alike (rules ++ more) (others ++ also)
+alike-append [] [] more also a n = n tt
+alike-append [] (s ∷ others) more also a n = absurd a
+alike-append (r ∷ rules) [] more also a n = absurd a
+alike-append ((b ⇒ v) ∷ rules) ((c ⇒ w) ∷ others) more also a n = (a .0, a .1, λ f. alike-append rules others more also (a .2 f) (λ c. n (f, c)))
+
+-- they answer alike, and what relates what they were lent, and what they made, relates what they leave
+pub calls-alike : {S : Type 0} (R : S → S → Type 0) {p q made done : S} (rules others : List Rule) → Alike rules others → R p q → (clear rules → R made done)
+    → (called others q done .0 ≡ called rules p made .0) × R (called rules p made .1) (called others q done .1)
+calls-alike R [] [] a l m = (refl, m tt)
+calls-alike R [] (s ∷ others) a l m = absurd a
+calls-alike R (r ∷ rules) [] a l m = absurd a
+calls-alike R ((true ⇒ v) ∷ rules) ((c ⇒ w) ∷ others) a l m = rw (a .0, a .1) (refl, l)
+calls-alike R ((false ⇒ v) ∷ rules) ((c ⇒ w) ∷ others) a l m = rw (a .0) (calls-alike R rules others (a .2 refl) l (λ c. m (refl, c)))
