@@ -1,6 +1,7 @@
 // Packets for the cases: good ones of any shape, and faults put into them.
 
 use crate::mend::{computed_message_field, fresh_header_field, fresh_message_field, write_field};
+use crate::mistakes::WHOLE_MESSAGE;
 use crate::packet::{View, HEADER_FIELD, ICMP, ICMPV6, TABLE, TCP, UDP};
 use crate::random::Random;
 use crate::sums::Field;
@@ -23,16 +24,19 @@ pub struct Shape {
     pub words: usize,
     pub offset: usize,
     pub body: usize,
+    /// Behind UDP's datagram, before the declared end.
+    pub trailing: usize,
+    /// Behind the declared end.
     pub tail: usize,
 }
 
 impl Shape {
-    /// No options and no tail.
+    /// No options, no trailing area and no tail.
     pub fn plain((family, protocol): (u8, u8), body: usize) -> Self {
-        Shape { family, protocol, words: 5, offset: 5, body, tail: 0 }
+        Shape { family, protocol, words: 5, offset: 5, body, trailing: 0, tail: 0 }
     }
 
-    /// Perhaps options, perhaps a tail.
+    /// Perhaps options, perhaps a tail; no trailing area.
     pub fn any(kind: (u8, u8), body: usize, random: &mut Random) -> Self {
         let mut shape = Shape::plain(kind, body);
         if random.once_in(2) {
@@ -64,15 +68,16 @@ impl Shape {
 
     /// A good packet of this shape.
     pub fn good(&self, random: &mut Random) -> Vec<u8> {
-        let length = (self.before_body() + self.body) as u16;
+        let datagram = (self.before_body() + self.body) as u16;
+        let length = datagram + self.trailing as u16;
         let mut packet = if self.family == 4 { self.header4(length, random) } else { self.header6(length, random) };
         let message = packet.len();
         packet.extend(random.bytes(self.before_body()));
         packet.extend(random.contents(self.body));
-        packet.extend(random.contents(self.tail));
+        packet.extend(random.contents(self.trailing + self.tail));
         match self.protocol {
             TCP => packet[message + 12] = (self.offset << 4) as u8 | random.between(0, 15) as u8,
-            UDP => write_word(&mut packet, message + 4, length),
+            UDP => write_word(&mut packet, message + 4, datagram),
             _ => {}
         }
         refresh(&mut packet, self.family);
@@ -186,12 +191,19 @@ pub fn faults_of((family, protocol): (u8, u8)) -> Vec<Fault> {
     BEFORE_SUMS.into_iter().chain(AFTER_SUMS).filter(fits).collect()
 }
 
-/// Puts faults into a good packet.
+/// Puts faults into a good packet. If they leave more trailing area than it had, the field is that of the whole message,
+/// which is wrong.
 pub fn spoil(packet: &mut Vec<u8>, family: u8, faults: &[Fault], random: &mut Random) {
+    let trailing = View::read_as(packet, family).trailing_length();
     for fault in BEFORE_SUMS.iter().filter(|fault| faults.contains(fault)) {
         put_before_sums(packet, family, *fault, random);
     }
     refresh(packet, family);
+    let view = View::read_as(packet, family);
+    if view.trailing_length() > trailing {
+        let (place, field) = (view.field_place(), WHOLE_MESSAGE.field(&view));
+        write_field(packet, place, field);
+    }
     for fault in AFTER_SUMS.iter().filter(|fault| faults.contains(fault)) {
         put_after_sums(packet, family, *fault, random);
     }
@@ -227,7 +239,8 @@ fn put_before_sums(packet: &mut [u8], family: u8, fault: Fault, random: &mut Ran
     }
 }
 
-/// A TCP data offset below 5 or past the message; a UDP length that isn't the message's.
+/// A TCP data offset below 5 or past the message; a UDP length that isn't the message's, which is below 8, past the
+/// message, or leaves a trailing area.
 fn put_inner_length(packet: &mut [u8], family: u8, random: &mut Random) {
     let view = View::read_as(packet, family);
     let (message, length) = (view.header_length(), view.message_length());

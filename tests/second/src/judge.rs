@@ -44,7 +44,7 @@ fn message_short(view: &View) -> bool {
 fn length_wrong(view: &View) -> bool {
     match view.protocol() {
         TCP => view.data_offset() < 5 || 4 * view.data_offset() > view.message_length(),
-        UDP => view.udp_length() != view.message_length(),
+        UDP => !view.datagram_fits(),
         _ => false,
     }
 }

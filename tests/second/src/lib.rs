@@ -10,6 +10,7 @@ pub mod draft;
 pub mod edit;
 pub mod judge;
 pub mod mend;
+pub mod mistakes;
 pub mod packet;
 pub mod random;
 pub mod sums;

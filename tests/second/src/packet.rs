@@ -80,7 +80,7 @@ impl<'a> View<'a> {
         self.by_family(4 * usize::from(self.byte(0) & 15), 40)
     }
 
-    /// The declared end; what lies behind it is the tail.
+    /// The declared end; what lies behind it is tail, and UDP's trailing area before it too.
     pub fn end(&self) -> usize {
         self.by_family(usize::from(self.word(2)), 40 + usize::from(self.word(4)))
     }
@@ -145,7 +145,7 @@ impl<'a> View<'a> {
             return Vec::new();
         }
         let mut pseudo = self.stretch(self.address_place(0), 2 * self.address_length());
-        let length = self.message_length() as u32;
+        let length = self.covered_length() as u32;
         if self.family == 6 {
             pseudo.extend(length.to_be_bytes());
             pseudo.extend([0, 0, 0, self.protocol()]);
@@ -156,10 +156,10 @@ impl<'a> View<'a> {
         pseudo
     }
 
-    /// The covered block: the pseudo-header, then the message.
+    /// The covered block: the pseudo-header, then the message, of UDP the datagram alone.
     pub fn covered_block(&self) -> Vec<u8> {
-        let mut block = self.pseudo_header();
-        block.extend(self.message());
+        let (mut block, message) = (self.pseudo_header(), self.message());
+        block.extend(&message[..self.covered_length().min(message.len())]);
         block
     }
 
@@ -173,9 +173,27 @@ impl<'a> View<'a> {
         usize::from(self.byte(self.header_length() + 12) >> 4)
     }
 
-    /// UDP's own length.
+    /// UDP's own length, which is that of the datagram.
     pub fn udp_length(&self) -> usize {
         usize::from(self.word(self.header_length() + 4))
+    }
+
+    /// Whether UDP's length is from 8 up to the message length.
+    pub fn datagram_fits(&self) -> bool {
+        (8..=self.message_length()).contains(&self.udp_length())
+    }
+
+    /// How much of the message its field covers: of UDP the datagram, or all if that doesn't fit; of others all.
+    pub fn covered_length(&self) -> usize {
+        match self.protocol() {
+            UDP if self.datagram_fits() => self.udp_length(),
+            _ => self.message_length(),
+        }
+    }
+
+    /// The length of the trailing area: what lies between UDP's datagram and the declared end.
+    pub fn trailing_length(&self) -> usize {
+        self.message_length() - self.covered_length()
     }
 
     /// The place of the body in the message.
@@ -187,6 +205,6 @@ impl<'a> View<'a> {
     }
 
     pub fn body_length(&self) -> usize {
-        self.message_length().saturating_sub(self.body_offset())
+        self.covered_length().saturating_sub(self.body_offset())
     }
 }

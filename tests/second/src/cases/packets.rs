@@ -74,9 +74,11 @@ impl Maker {
         (place as u64, self.random.contents(length))
     }
 
-    /// A packet judged, mended, and edited in every way that is done or refused.
+    /// A packet judged, mended, and edited in every way that is done or refused. Stretches go to the message's end, so
+    /// that some reach into a trailing area.
     pub fn every_operation(&mut self, packet: &[u8], family: u8) {
-        let body = View::read_as(packet, family).body_length();
+        let view = View::read_as(packet, family);
+        let body = view.body_length() + view.trailing_length();
         let (right, wrong) = if family == 4 { (4, 16) } else { (16, 4) };
         self.given(JUDGE, 0, packet, &[]);
         self.again(MEND, 0, &[]);
