@@ -5,6 +5,7 @@ mod corners;
 mod lifetimes;
 mod packets;
 mod sums;
+mod trailing;
 mod zeros;
 
 use crate::answer::*;
@@ -20,11 +21,13 @@ struct Maker {
     count: u64,
     desk: Desk,
     cover: Option<Cover>,
+    /// Whether any shape of UDP may have a trailing area. In the older stored cases none has: they stay the same bytes.
+    trailing: bool,
 }
 
 impl Maker {
     fn new(seed: u64, cover: Option<Cover>) -> Self {
-        Maker { random: Random(seed), bytes: Vec::new(), count: 0, desk: Desk::default(), cover }
+        Maker { random: Random(seed), bytes: Vec::new(), count: 0, desk: Desk::default(), cover, trailing: true }
     }
 
     fn add(&mut self, case: Case) {
@@ -61,13 +64,20 @@ impl Maker {
     fn any_good(&mut self, kind: (u8, u8)) -> Vec<u8> {
         let longest = self.random.pick(&[8, 24, 24, 24, 60]);
         let body = self.random.between(0, longest);
-        Shape::any(kind, body, &mut self.random).good(&mut self.random)
+        self.any_shape(kind, body).good(&mut self.random)
+    }
+
+    /// Perhaps options, perhaps a tail, and for UDP perhaps a trailing area, if it may have one.
+    fn any_shape(&mut self, kind: (u8, u8), body: usize) -> Shape {
+        let any = if self.trailing { Shape::any } else { Shape::any_whole };
+        any(kind, body, &mut self.random)
     }
 }
 
 /// The stored cases and their number; an error if they don't reach what they must.
 pub fn stored(seed: u64) -> Result<(Vec<u8>, u64), String> {
     let mut maker = Maker::new(seed, Some(Cover::default()));
+    maker.trailing = false;
     maker.sums();
     maker.packets();
     maker.corners();
@@ -76,6 +86,8 @@ pub fn stored(seed: u64) -> Result<(Vec<u8>, u64), String> {
     maker.long_chains();
     maker.zeros();
     maker.lifetimes_of_any();
+    maker.trailing = true;
+    maker.trailing_areas();
     if let Some(cover) = &maker.cover {
         cover.check()?;
     }
@@ -86,7 +98,7 @@ pub fn stored(seed: u64) -> Result<(Vec<u8>, u64), String> {
 pub fn fuzz(seed: u64, count: u64, out: &mut impl Write) -> io::Result<()> {
     let mut maker = Maker::new(seed, None);
     while maker.count < count {
-        match maker.random.between(1, 60) {
+        match maker.random.between(1, 68) {
             1 => maker.any_corner(),
             2 => maker.any_blank(),
             3..=7 => maker.any_sums(),
@@ -98,6 +110,7 @@ pub fn fuzz(seed: u64, count: u64, out: &mut impl Write) -> io::Result<()> {
             27..=36 => maker.any_sequence(),
             37..=38 => maker.any_zeros(),
             39..=46 => maker.any_lifetimes(),
+            47..=54 => maker.any_trailing(),
             _ => maker.any_faults(),
         }
         out.write_all(&maker.bytes)?;

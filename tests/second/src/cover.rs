@@ -1,6 +1,7 @@
 // What the stored cases must reach, and the check that they do. Each thing reached is a line of plain words.
 
 mod lifetimes;
+mod trailing;
 
 use crate::answer::*;
 use crate::capture::{edition_wrong, mark_wrong, whole_records};
@@ -16,8 +17,9 @@ use std::collections::BTreeSet;
 
 #[derive(Default)]
 pub struct Cover {
-    /// The verdicts of each operation, what an edit makes of the fields that it updates and of the verdict, and what
-    /// the lifetime edit changes; these must be those the paper makes possible, and no others.
+    /// The verdicts of each operation, what an edit makes of the fields that it updates and of the verdict, what the
+    /// lifetime edit changes, and what lies behind a datagram; these must be those the paper makes possible, and no
+    /// others.
     exact: BTreeSet<String>,
     /// All else that was reached; there may be more than is wanted.
     reached: BTreeSet<String>,
@@ -85,6 +87,7 @@ impl Cover {
         if let (LEFT, Some((before, its_verdict))) = (case.source, self.last) {
             self.reach(format!("{}'s {its_verdict}, then {operation}: {verdict}", OPERATIONS[before as usize]));
         }
+        self.note_datagram(case, &view, &View::new(after), verdict);
         self.last = Some((case.operation, verdict));
         if verdict != GOOD && before != after {
             self.exact.insert(format!("{operation} refused with {verdict}: bytes changed"));
@@ -237,7 +240,10 @@ impl Cover {
             self.reach(format!("judge capture: {} room", if places == count { "exact" } else { "more" }));
             for record in records {
                 self.reach(format!("record of {} bytes", record.len()));
-                self.reach(format!("record with verdict {}", crate::judge::judge(record)));
+                self.reach(format!("record with verdict {}", judge(record)));
+                if View::new(record).trailing_length() > 0 {
+                    self.reach(format!("record with a trailing area: {}", judge(record)));
+                }
             }
         }
     }
@@ -419,6 +425,7 @@ fn wanted_exactly() -> BTreeSet<String> {
     let together = [("under 2^64 - 1", GOOD), ("2^64 - 1", GOOD), ("2^64", PLACE), ("over 2^64", PLACE)];
     wanted.extend(together.map(|(lengths, number)| format!("join, lengths together {lengths}: {number}")));
     wanted.extend(lifetimes::wanted_exactly());
+    wanted.extend(trailing::wanted_exactly());
     for operation in [ADDRESS, STRETCH] {
         let name = OPERATIONS[operation as usize];
         for (family, verdicts) in [(4, &[GOOD, UNSUMMED, HEADER_SUM, MESSAGE_SUM][..]), (6, &[GOOD, MESSAGE_SUM])] {
@@ -461,6 +468,7 @@ fn wanted_else() -> BTreeSet<String> {
     wanted.extend(wanted_zeros());
     wanted.extend(wanted_edits());
     wanted.extend(lifetimes::wanted());
+    wanted.extend(trailing::wanted());
     wanted.extend(wanted_captures());
     wanted.extend(wanted_sums());
     wanted

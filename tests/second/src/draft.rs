@@ -36,8 +36,17 @@ impl Shape {
         Shape { family, protocol, words: 5, offset: 5, body, trailing: 0, tail: 0 }
     }
 
-    /// Perhaps options, perhaps a tail; no trailing area.
+    /// Perhaps options, perhaps a tail, and for UDP perhaps a trailing area.
     pub fn any(kind: (u8, u8), body: usize, random: &mut Random) -> Self {
+        let mut shape = Shape::any_whole(kind, body, random);
+        if kind.1 == UDP && random.once_in(2) {
+            shape.trailing = random.between(1, 40);
+        }
+        shape
+    }
+
+    /// Perhaps options, perhaps a tail; a datagram is the whole message.
+    pub fn any_whole(kind: (u8, u8), body: usize, random: &mut Random) -> Self {
         let mut shape = Shape::plain(kind, body);
         if random.once_in(2) {
             shape.words = random.between(5, 15);

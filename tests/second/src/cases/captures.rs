@@ -31,7 +31,7 @@ impl Maker {
     }
 
     /// A capture judged with room for no verdict, one too few, just enough, and more; and its printed lines.
-    fn rooms(&mut self, capture: &[u8]) {
+    pub fn rooms(&mut self, capture: &[u8]) {
         let count = whole_records(capture).0.len() as u64;
         self.given(PRINTED, 0, capture, &[]);
         for places in [0, count.saturating_sub(1), count, count + 1, count + 9] {
@@ -137,7 +137,7 @@ impl Maker {
     }
 }
 
-fn capture(records: &[Vec<u8>]) -> Vec<u8> {
+pub fn capture(records: &[Vec<u8>]) -> Vec<u8> {
     let mut capture = HEAD.to_vec();
     for record in records {
         capture.extend((record.len() as u16).to_be_bytes());

@@ -41,15 +41,6 @@ impl Maker {
         self.nearly_blank((family, protocol));
     }
 
-    /// A packet whose fresh fields are 0000 (UDP's FFFF), and the place of its body.
-    fn balanced(&mut self, kind: (u8, u8)) -> (Vec<u8>, usize) {
-        let body = self.random.between(12, 17);
-        let shape = Shape::any(kind, body, &mut self.random);
-        let mut packet = shape.good(&mut self.random);
-        self.balance(&mut packet, kind.0, shape.headers());
-        (packet, shape.headers())
-    }
-
     fn balance(&mut self, packet: &mut [u8], family: u8, place: usize) {
         balance_message(packet, family, place);
         if family == 4 {
@@ -58,7 +49,16 @@ impl Maker {
     }
 
     fn corner(&mut self, kind: (u8, u8)) {
-        let (packet, body) = self.balanced(kind);
+        let body = self.random.between(12, 17);
+        let shape = self.any_shape(kind, body);
+        self.corner_of(shape);
+    }
+
+    /// A packet whose fresh fields are 0000 (UDP's FFFF), with a body of 12 bytes or more.
+    pub fn corner_of(&mut self, shape: Shape) {
+        let (kind, body) = ((shape.family, shape.protocol), shape.headers());
+        let mut packet = shape.good(&mut self.random);
+        self.balance(&mut packet, kind.0, body);
         self.every_operation(&packet, kind.0);
         self.stored_corners(&packet, kind);
         self.back_to_zero(&packet, body, kind.0);
@@ -161,7 +161,7 @@ impl Maker {
     /// A packet whose message is zeros where it may be, with several fields and tails.
     fn blank_messages(&mut self, family: u8, protocol: u8, body: usize) {
         for tail in [0, 3] {
-            let shape = Shape { tail, ..Shape::any((family, protocol), body, &mut self.random) };
+            let shape = Shape { tail, ..self.any_shape((family, protocol), body) };
             let mut packet = shape.good(&mut self.random);
             let end = View::new(&packet).end();
             packet[shape.headers()..end].fill(0);

@@ -146,7 +146,7 @@ impl Maker {
     }
 
     /// Messages under their fixed header, TCP offsets below 5 words and just past the message, UDP lengths that are one
-    /// off, and UDP over IPv6 without a sum.
+    /// off (one less leaves a trailing area and a wrong sum), and UDP over IPv6 without a sum.
     fn shape_faults(&mut self) -> Vec<Vec<u8>> {
         let mut packets = Vec::new();
         for row in TABLE {

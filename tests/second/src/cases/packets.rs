@@ -124,8 +124,7 @@ impl Maker {
     /// Bodies of every length to 100 and some longer.
     fn lengths(&mut self, kind: (u8, u8)) {
         for body in (0..=100).chain([127, 255, 256, 511, 1024]) {
-            let shape = Shape::any(kind, body, &mut self.random);
-            let packet = shape.good(&mut self.random);
+            let packet = self.any_shape(kind, body).good(&mut self.random);
             self.given(JUDGE, 0, &packet, &[]);
             self.again(MEND, 0, &[]);
             for _ in 0..2 {
@@ -244,7 +243,7 @@ impl Maker {
         self.sequence(faults);
     }
 
-    /// Edits one after the other, some refused, on a packet that may have a fault; in the end it is mended twice.
+    /// Edits one after the other on a packet that may have a fault.
     fn sequence(&mut self, faults: &[Fault]) {
         let kind = self.any_kind();
         let faults: Vec<Fault> = faults_of(kind).into_iter().filter(|fault| faults.contains(fault)).collect();
@@ -255,10 +254,15 @@ impl Maker {
             }
             _ => self.any_good(kind),
         };
-        let body = View::new(&packet).body_length();
-        self.given(JUDGE, 0, &packet, &[]);
+        self.edits_in_turn(&packet);
+    }
+
+    /// Edits one after the other, some refused; in the end the packet is mended twice.
+    pub fn edits_in_turn(&mut self, packet: &[u8]) {
+        let (family, body) = (View::new(packet).family, View::new(packet).body_length());
+        self.given(JUDGE, 0, packet, &[]);
         for _ in 0..self.random.between(5, 30) {
-            self.step(body, kind.0);
+            self.step(body, family);
             if self.random.once_in(3) {
                 self.left(JUDGE, 0, &[]);
             }
@@ -378,7 +382,7 @@ impl Maker {
             self.long(&packet, kind.0);
         }
         for (kind, body) in [((4, ICMP), 20_001), ((6, UDP), 1_499), ((4, TCP), 4_096), ((6, TCP), 9_000)] {
-            let packet = Shape::any(kind, body, &mut self.random).good(&mut self.random);
+            let packet = self.any_shape(kind, body).good(&mut self.random);
             let new = self.random.bytes(body);
             self.given(JUDGE, 0, &packet, &[]);
             self.again(STRETCH, 0, &new);
@@ -414,8 +418,8 @@ impl Maker {
     /// A packet of any length, the longest included, with a long stretch; long ones are rare.
     pub fn any_long(&mut self) {
         let kind = self.any_kind();
-        let mut shape = Shape::any(kind, 0, &mut self.random);
-        let most = if kind.0 == 4 { 65_535 } else { 65_575 } - shape.headers();
+        let mut shape = self.any_shape(kind, 0);
+        let most = if kind.0 == 4 { 65_535 } else { 65_575 } - shape.headers() - shape.trailing;
         let longest = self.random.pick(&[300, 300, 2000, 2000, 2000, 9000, most]);
         shape.body = if self.random.once_in(4) { longest } else { self.random.between(1, longest) };
         let packet = shape.good(&mut self.random);

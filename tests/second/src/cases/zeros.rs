@@ -215,7 +215,7 @@ impl Maker {
         for _ in 0..4 {
             let kind = self.any_kind();
             let body = self.random.between(2, 40);
-            let packet = Shape::any(kind, body, &mut self.random).good(&mut self.random);
+            let packet = self.any_shape(kind, body).good(&mut self.random);
             let damage = self.random.pick(&damages(kind));
             let damage = if self.random.once_in(3) { damage } else { Damage::Nothing };
             let length = self.random.between(2, body);

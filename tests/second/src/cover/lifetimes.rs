@@ -17,7 +17,7 @@ const PASSED_OVER: [Named; 5] = [
 ];
 
 /// Fragments by their flag and offset.
-const PARTS: [&str; 3] = ["first", "middle", "last"];
+pub const PARTS: [&str; 3] = ["first", "middle", "last"];
 
 impl Cover {
     /// A lifetime edit: why the others would refuse the packet first, what is answered, what changes, and what the
@@ -51,7 +51,7 @@ impl Cover {
 }
 
 /// The word at a place, if it is a corner.
-fn word_name(view: &View, place: usize) -> &'static str {
+pub fn word_name(view: &View, place: usize) -> &'static str {
     match view.word(place) {
         0x0000 => "0000",
         0xFFFF => "FFFF",
@@ -70,7 +70,7 @@ fn lifetime_name(view: &View) -> &'static str {
 }
 
 /// Which part of a message an IPv4 fragment has.
-fn part(view: &View) -> Option<&'static str> {
+pub fn part(view: &View) -> Option<&'static str> {
     match (view.family, view.more_fragments(), view.fragment_offset()) {
         (4, true, 0) => Some("first"),
         (4, true, _) => Some("middle"),
@@ -237,7 +237,7 @@ fn wanted_fragments() -> Vec<String> {
     wanted
 }
 
-/// Messages whose shape is wrong, in a family.
+/// Messages whose shape is wrong, in a family, and UDP's last byte as a trailing area.
 fn shapes(family: u8) -> Vec<String> {
     let mut all = Vec::new();
     for row in TABLE.iter().filter(|row| row.families.contains(&family)) {
