@@ -1,8 +1,9 @@
 // The stored cases and answers are those of seed 1; the case format is read as CASES.md says.
 
-use second::answer::{Case, Desk, Next, ADDRESS, LEFT, LIFETIME, STRETCH};
+use second::answer::{Case, Desk, Next, ADDRESS, JUDGE, LEFT, LIFETIME, MEND, STRETCH};
 use second::cases;
 use second::judge::judge;
+use second::mistakes::MISTAKES;
 use second::packet::View;
 use second::updates::updated_fields;
 use std::collections::BTreeMap;
@@ -106,6 +107,40 @@ fn fuzz_reaches_lifetimes_of_packets_that_the_other_edits_refuse() {
             assert!(count >= least, "IPv{family}, verdict {verdict}, {what}: {count}");
         }
     }
+}
+
+/// Datagrams and trailing areas of even and odd lengths in both families: each call done and refused, and sums that a
+/// mistake about the datagram's end finds right.
+#[test]
+fn fuzz_reaches_trailing_areas() {
+    let mut bytes = Vec::new();
+    cases::fuzz(9, 60_000, &mut bytes).unwrap();
+    let (mut input, mut desk, mut met, mut mistaken) = (&bytes[..], Desk::default(), BTreeMap::new(), BTreeMap::new());
+    while let Next::Case(case) = Case::read(&mut input).unwrap() {
+        desk.lay(&case);
+        let before = desk.buffer.clone();
+        let (view, answer) = (View::new(&before), desk.answer(&case));
+        if case.operation > STRETCH || view.trailing_length() == 0 {
+            continue;
+        }
+        let verdict: u8 = answer.trim_end().split(' ').next().unwrap().parse().unwrap();
+        let odd = (view.covered_length() % 2, view.trailing_length() % 2);
+        *met.entry((view.family, odd, case.operation, verdict)).or_insert(0) += 1;
+        if (case.operation, verdict) == (JUDGE, 9) {
+            for (i, _) in MISTAKES.iter().enumerate().filter(|(_, mistake)| mistake.passes(&view)) {
+                *mistaken.entry((view.family, i)).or_insert(0) += 1;
+            }
+        }
+    }
+    let kinds = [(4, 1), (6, 8)].into_iter().flat_map(|kind| [(0, 0), (0, 1), (1, 0), (1, 1)].map(|odd| (kind, odd)));
+    for ((family, zero), odd) in kinds {
+        let calls = [(JUDGE, 0), (JUDGE, 2), (JUDGE, 9), (JUDGE, zero), (MEND, 0), (LIFETIME, 0)];
+        for call in calls.into_iter().chain([(ADDRESS, 0), (ADDRESS, 10), (STRETCH, 0), (STRETCH, 10)]) {
+            let count = met.get(&(family, odd, call.0, call.1)).copied().unwrap_or(0);
+            assert!(count >= 10, "IPv{family}, odd {odd:?}, call {call:?}: {count}");
+        }
+    }
+    assert!(mistaken.len() == 10 && mistaken.values().all(|count| *count >= 10), "{mistaken:?}");
 }
 
 #[test]
