@@ -16,6 +16,7 @@ from scapy.packet import Raw
 from scapy.utils import checksum
 
 from fragments import Fragment, is_fragment, messages
+from trailing import with_area
 
 SEED, MADE, ZEROS, FULLS, DAMAGES, STRETCHES = 20, 1500, 60, 432, 4, 2
 GOOD, UNSUMMED, HEADER_SUM, FRAGMENT, UNCOVERED, MESSAGE_SUM = 0, 1, 5, 6, 7, 9
@@ -28,14 +29,17 @@ table = []
 
 
 class Packet:
-    """Where things are in a packet that is whole."""
+    """Where things are in a packet that is whole. The message ends with the datagram in UDP; between that and the
+    declared end there may be a trailing area, and behind that a tail."""
 
     def __init__(self, data):
         self.data = data
         self.four = data[0] >> 4 == 4
         self.start = 4 * (data[0] & 15) if self.four else 40
-        self.end = int.from_bytes(data[2:4], "big") if self.four else 40 + int.from_bytes(data[4:6], "big")
+        self.declared = int.from_bytes(data[2:4], "big") if self.four else 40 + int.from_bytes(data[4:6], "big")
         self.protocol = data[9] if self.four else data[6]
+        length = int.from_bytes(data[self.start + 4:self.start + 6], "big")
+        self.end = self.start + length if self.protocol == 17 else self.declared
         self.covered = self.protocol in ((1, 6, 17) if self.four else (6, 17, 58))
         if self.covered:
             fixed, field = FIXED[self.protocol]
@@ -111,7 +115,7 @@ def tshark(packets):
 
 
 def rebuilt(packet):
-    """The packet with its fields worked out by scapy; a UDP field of 0000 over IPv4 is kept."""
+    """The packet with its fields worked out by scapy, over the message alone; a UDP field of 0000 over IPv4 is kept."""
     data = packet.data[:packet.end]
     if packet.protocol == 58:
         made = IPv6(data[:40]) / ICMPv6Unknown(data[40:])  # scapy leaves types that it doesn't know unread
@@ -121,8 +125,10 @@ def rebuilt(packet):
         if not (packet.four and packet.unsummed):
             del made.payload.chksum
     if packet.four:
-        del made.chksum
-    return bytes(made)
+        made.len = packet.end
+    else:
+        made.plen = packet.end - 40
+    return with_area(bytes(made), packet.data[packet.end:packet.declared])
 
 
 # Where packets come from
@@ -389,7 +395,7 @@ def check_mended(packets):
     agreed, mended = 0, check_changed("mended", [("m", 0, b"", data) for data in broken])
     for data in mended:
         packet = Packet(data)
-        if rebuilt(packet) == data[:packet.end]:
+        if rebuilt(packet) == data[:packet.declared]:
             agreed += 1
         else:
             disagree(f"mended: scapy makes {rebuilt(packet).hex()} of it", data)
