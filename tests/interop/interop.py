@@ -233,16 +233,16 @@ def kernel_cut(seen, sent):
 # What is tried
 
 
-def check_good(who, packets):
-    """Packets that others made: good or unsummed for us and for tshark."""
+def check_good(what, packets):
+    """Packets that nobody damaged where a sum must see it: good or unsummed for us and for tshark."""
     agreed = 0
     for data, we, they in zip(packets, judged(packets), tshark(packets)):
         want = UNSUMMED if Packet(data).unsummed else GOOD
         if we == they == want:
             agreed += 1
         else:
-            disagree(f"made by {who}: {want} wanted, we say {we}, tshark {they}", data)
-    count(f"made by {who}; good (or unsummed) for us and for tshark", agreed, len(packets))
+            disagree(f"{what}: {want} wanted, we say {we}, tshark {they}", data)
+    count(f"{what}; good (or unsummed) for us and for tshark", agreed, len(packets))
 
 
 def spoilt(data, places):
@@ -261,14 +261,20 @@ def damaged(packet):
     return damaged(packet) if not packet.unsummed and Packet(data).unsummed else data
 
 
-def check_damaged(packets):
-    agreed, broken = 0, [damaged(Packet(data)) for data in packets for _ in range(DAMAGES)]
-    for data, we, they in zip(broken, judged(broken), tshark(broken)):
+def check_refused(what, packets):
+    """Packets with a wrong sum: refused by us and by tshark, for the same one."""
+    agreed = 0
+    for data, we, they in zip(packets, judged(packets), tshark(packets)):
         if we == they and we in (HEADER_SUM, MESSAGE_SUM):
             agreed += 1
         else:
-            disagree(f"damaged: we say {we}, tshark {they}", data)
-    count("damaged by us, one bit or one byte; refused by us and by tshark, for the same sum", agreed, len(broken))
+            disagree(f"{what}: we say {we}, tshark {they}", data)
+    count(f"{what}; refused by us and by tshark, for the same sum", agreed, len(packets))
+
+
+def check_damaged(what, packets):
+    broken = [damaged(Packet(data)) for data in packets for _ in range(DAMAGES)]
+    check_refused(f"{what} by us, one bit or one byte", broken)
 
 
 def wanted(letter, number, new, data):
@@ -320,14 +326,18 @@ def same(data):
     return "s", 0, data[packet.body:packet.end], data
 
 
-def check_edits(packets):
-    lowered = check_changed("lifetime lowered", [("l", 0, b"", data) for data in packets])
-    moved = check_changed("address set", [address(data) for data in packets])
-    roomy = [data for data in packets if Packet(data).end > Packet(data).body]
-    check_changed("stretch set", [stretch(data) for data in roomy for _ in range(STRETCHES)])
-    check_changed("the same body set", [same(data) for data in roomy])
+def roomy(packets):
+    """Those that have a body."""
+    return [data for data in packets if Packet(data).end > Packet(data).body]
+
+
+def check_edits(packets, kind=""):
+    lowered = check_changed(kind + "lifetime lowered", [("l", 0, b"", data) for data in packets])
+    moved = check_changed(kind + "address set", [address(data) for data in packets])
+    check_changed(kind + "stretch set", [stretch(data) for data in roomy(packets) for _ in range(STRETCHES)])
+    check_changed(kind + "the same body set", [same(data) for data in roomy(packets)])
     again = [address(data) for data in lowered] + [("l", 0, b"", data) for data in moved]
-    check_changed("two edits in turn", again)
+    check_changed(kind + "two edits in turn", again)
 
 
 def check_full(packets):
@@ -360,12 +370,15 @@ def check_fresh(what, requests):
     return results
 
 
-def check_bits(packets):
-    """A station that compares our fields bit by bit, also where they stood at FFFF for 0000."""
-    roomy = [data for data in packets if Packet(data).end > Packet(data).body]
+def check_bits(packets, kind=""):
+    """A station that compares our fields bit by bit."""
     lowered = [("l", 0, b"", data) for data in packets if Packet(data).four]
-    check_fresh("edited", lowered + [address(data) for data in packets] + [stretch(data) for data in roomy])
+    rest = [address(data) for data in packets] + [stretch(data) for data in roomy(packets)]
+    check_fresh(kind + "edited", lowered + rest)
 
+
+def check_full_bits():
+    """The same where fields stood at FFFF for 0000."""
     full = [full_made(i) for i in range(FULLS)]
     made = [data for data, _, _ in full]
     check_full(made)
@@ -390,16 +403,16 @@ def scribbled(data):
     return b"" if not packet.unsummed and Packet(bytes(data)).unsummed else bytes(data)
 
 
-def check_mended(packets):
+def check_mended(packets, kind=""):
     broken = [data for data in map(scribbled, packets) if data]
-    agreed, mended = 0, check_changed("mended", [("m", 0, b"", data) for data in broken])
+    agreed, mended = 0, check_changed(kind + "mended", [("m", 0, b"", data) for data in broken])
     for data in mended:
         packet = Packet(data)
         if rebuilt(packet) == data[:packet.declared]:
             agreed += 1
         else:
             disagree(f"mended: scapy makes {rebuilt(packet).hex()} of it", data)
-    count("mended by us; the bytes that scapy makes", agreed, len(mended))
+    count(kind + "mended by us; the bytes that scapy makes", agreed, len(mended))
 
 
 def cut(data):
@@ -548,18 +561,19 @@ def main():
     kinds = {(Packet(data).four, Packet(data).protocol) for data in kernel}
     if not kinds >= {(True, 1), (True, 6), (True, 17), (False, 6), (False, 17), (False, 58)}:
         disagree(f"the kernel's capture has only the kinds {sorted(kinds)}", b"")
-    check_good("scapy", made)
-    check_good("the kernel", kernel)
+    check_good("made by scapy", made)
+    check_good("made by the kernel", kernel)
     for data, we in zip(others, judged(others)):
         if we != UNCOVERED:
             disagree(f"another protocol of the kernel's: we say {we}", data)
     both = made + kernel
-    check_damaged(both)
+    check_damaged("damaged", both)
     check_edits(both)
     check_mended(both)
     check_sums("c", "cut and summed as a chain", both)
     check_sums("p", "cut, summed piece by piece and joined", both)
     check_bits(both)
+    check_full_bits()
     check_fragments(kernel_cut(sys.argv[2], sys.argv[3]))
     print("| what | packets | agreed |\n|---|---|---|")
     for what, packets, agreed in table:
