@@ -16,11 +16,13 @@ from scapy.packet import Raw
 from scapy.utils import checksum
 
 from fragments import Fragment, is_fragment, messages
-from trailing import with_area
+from trailing import right_if_summed, summed_past, with_area, with_areas
 
 SEED, MADE, ZEROS, FULLS, DAMAGES, STRETCHES = 20, 1500, 60, 432, 4, 2
 GOOD, UNSUMMED, HEADER_SUM, FRAGMENT, UNCOVERED, MESSAGE_SUM = 0, 1, 5, 6, 7, 9
 FIXED = {1: (8, 2), 6: (20, 16), 17: (8, 6), 58: (4, 2)}  # protocol: fixed header, place of the field
+PAST = "summed with the datagram, or only its length, or both"
+CHOSEN = "damaged by us in the datagram, and right if the area were summed"
 FULL = ["ffff", "80ff7f", "80007fff", "0000ffff", "1234edcb00", "ffffffffffff"]  # their fold is FFFF anywhere
 FULL_ADDRESSES = ["ffffffff", "80007fff", "0000ffff", "fe80017f"]  # the first two bytes and the last, zeros between
 rng = random.Random(SEED)
@@ -252,13 +254,13 @@ def spoilt(data, places):
     return bytes(data)
 
 
-def damaged(packet):
-    """A packet that is changed where a sum must see it."""
+def damaged(packet, ahead=0.3):
+    """A packet that is changed where a sum must see it: ahead of the message so often, or if that has no sum."""
     header = [1, 4, 5, 8, *range(10, 20)] if packet.four else range(8, 40)
     lengths = {6: (12,), 17: (4, 5)}.get(packet.protocol, ())
     message = [i for i in range(packet.start, packet.end) if i - packet.start not in lengths]
-    data = spoilt(packet.data, header if packet.unsummed or rng.random() < 0.3 else message)
-    return damaged(packet) if not packet.unsummed and Packet(data).unsummed else data
+    data = spoilt(packet.data, header if packet.unsummed or rng.random() < ahead else message)
+    return damaged(packet, ahead) if not packet.unsummed and Packet(data).unsummed else data
 
 
 def check_refused(what, packets):
@@ -553,6 +555,30 @@ def check_fragments(pairs):
     count("fragments by the kernel with the lifetime 1; refused by us on the way", spent.count(b""), len(spent))
 
 
+# Trailing areas: behind the datagram nobody sums and nobody writes
+
+
+def area_damaged(data):
+    packet = Packet(data)
+    return spoilt(data, range(packet.end, packet.declared))
+
+
+def check_trailing(made):
+    """UDP packets of scapy's with a trailing area: all is as if it weren't there, and it stays as it was."""
+    kind, bases = "trailing area, ", [Packet(data) for data in made if Packet(data).protocol == 17]
+    packets = list(with_areas(rng, bases))
+    check_good(kind + "made by scapy", packets)
+    check_good(kind + "damaged by us in it alone", [area_damaged(data) for data in packets])
+    check_damaged(kind + "damaged before it", packets)
+    summed = [packet for packet in map(Packet, packets) if not packet.unsummed]
+    check_refused(kind + PAST, [data for packet in summed for data in summed_past(packet)])
+    broken = [Packet(damaged(packet, ahead=0)) for packet in summed]
+    check_refused(kind + CHOSEN, [data for packet in broken for data in right_if_summed(packet)])
+    check_edits(packets, kind)
+    check_mended(packets, kind)
+    check_bits(packets, kind)
+
+
 def main():
     made = [scapy_made() for _ in range(MADE)] + [zero_made(i) for i in range(ZEROS)]
     sent = kernel_made(sys.argv[1])
@@ -575,6 +601,7 @@ def main():
     check_bits(both)
     check_full_bits()
     check_fragments(kernel_cut(sys.argv[2], sys.argv[3]))
+    check_trailing(made)
     print("| what | packets | agreed |\n|---|---|---|")
     for what, packets, agreed in table:
         print(f"| {what} | {packets} | {agreed} |")
