@@ -1,7 +1,7 @@
 """Holds the library to tools that nobody here wrote: scapy, the Linux kernel and tshark.
 
-interop.py KERNEL.pcap SEEN.pcap SENT.pcap OURS..: captures of what the kernel sent, of what came to relay.py and of
-what left it, and the words that start ours.c's program.
+interop.py KERNEL.pcap SEEN.pcap SENT.pcap HERE THERE OURS..: captures of what the kernel sent, of what came to relay.py
+and of what left it, two network namespaces, and the words that start ours.c's program.
 Prints a table of counts. At a disagreement it prints the packet in hex, and the exit status is 1.
 """
 import random
@@ -16,11 +16,13 @@ from scapy.packet import Raw
 from scapy.utils import checksum
 
 from fragments import Fragment, is_fragment, messages
-from trailing import right_if_summed, summed_past, with_area, with_areas
+from post import HERE, PORT, THERE, Post
+from trailing import right_if_summed, summed_past, with_area, with_areas, with_lengths, with_word
 
 SEED, MADE, ZEROS, FULLS, DAMAGES, STRETCHES = 20, 1500, 60, 432, 4, 2
-GOOD, UNSUMMED, HEADER_SUM, FRAGMENT, UNCOVERED, MESSAGE_SUM = 0, 1, 5, 6, 7, 9
+GOOD, UNSUMMED, SHAPE, HEADER_SUM, FRAGMENT, UNCOVERED, MESSAGE_SUM = 0, 1, 4, 5, 6, 7, 9
 FIXED = {1: (8, 2), 6: (20, 16), 17: (8, 6), 58: (4, 2)}  # protocol: fixed header, place of the field
+SENT = [*range(33), 255, 256, 1000, 1001, 1400]  # bytes for the other kernel
 PAST = "summed with the datagram, or only its length, or both"
 CHOSEN = "damaged by us in the datagram, and right if the area were summed"
 FULL = ["ffff", "80ff7f", "80007fff", "0000ffff", "1234edcb00", "ffffffffffff"]  # their fold is FFFF anywhere
@@ -69,7 +71,7 @@ def ours(requests):
         letter.encode() + struct.pack(">II", number, len(new)) + new + struct.pack(">I", len(data)) + data
         for letter, number, new, data in requests
     )
-    got = subprocess.run(sys.argv[4:], input=sent, stdout=subprocess.PIPE, check=True).stdout
+    got = subprocess.run(sys.argv[6:], input=sent, stdout=subprocess.PIPE, check=True).stdout
     answers, at = [], 0
     while at < len(got):
         verdict, length = struct.unpack_from(">BI", got, at)
@@ -114,6 +116,13 @@ def tshark(packets):
         found = {"0": MESSAGE_SUM, "1": GOOD, "3": UNSUMMED}.get(message)
         verdicts.append(HEADER_SUM if header == "0" else found)
     return verdicts
+
+
+def delivered(post, packets):
+    """What the other kernel finds in UDP packets, in our verdict numbers, and the datagrams that its socket got; None
+    where it neither hands on one nor refuses one."""
+    found = {(1, 0, 0): GOOD, (0, 1, 1): MESSAGE_SUM, (0, 1, 0): SHAPE}
+    return [(found.get((len(got), *counts)), got) for got, *counts in post.all_sent(packets)]
 
 
 def rebuilt(packet):
@@ -184,6 +193,12 @@ def zero_made(i):
     made = bytes(ip / message / Raw(packet.data[packet.field:packet.field + 2]))
     assert made[packet.field:packet.field + 2] == (b"\xff\xff" if packet.protocol == 17 else b"\0\0")
     return made
+
+
+def addressed(family, size):
+    """A packet of scapy's to the socket of the other kernel."""
+    ip = (IP if family == 4 else IPv6)(src=HERE[family], dst=THERE[family])
+    return bytes(ip / UDP(sport=rng.randrange(1024, 65536), dport=PORT) / Raw(rng.randbytes(size)))
 
 
 def full_made(i):
@@ -303,7 +318,8 @@ def check_changed(what, requests):
     answers, agreed = ours(requests), 0
     results = [data for _, data in answers]
     for request, (verdict, data), we, they in zip(requests, answers, judged(results), tshark(results)):
-        good = UNSUMMED if Packet(request[3]).unsummed else GOOD
+        before = Packet(request[3])
+        good = UNSUMMED if before.four and before.unsummed else GOOD
         if verdict == GOOD and we == they == good and wanted(*request) == fieldless(data):
             agreed += 1
         else:
@@ -563,6 +579,28 @@ def area_damaged(data):
     return spoilt(data, range(packet.end, packet.declared))
 
 
+def check_lengths(what, packets):
+    """Each UDP length, mended by us: 4 for us where tshark finds it bad, else right for tshark and scapy."""
+    requests, agreed = [("m", 0, b"", data) for packet in packets for data in with_lengths(packet)], 0
+    answers = ours(requests)
+    results = [data for _, data in answers]
+    remarks = asked(results, ["udp.length.bad", "udp.length.bad_zero"])
+    rows = zip(requests, answers, judged(results), tshark(results), remarks)
+    for (*_, before), (verdict, data), we, they, remark in rows:
+        packet = Packet(data)
+        if any(remark):
+            right = verdict == we == SHAPE and data == before
+        else:
+            right = verdict == we == they == GOOD and data[:packet.declared] == rebuilt(packet)
+        if right:
+            agreed += 1
+        else:
+            disagree(f"{what}: answered {verdict}, we say {we}, tshark {they} and {remark}", data)
+    count(f"{what} mended by us; 4 for us where bad for tshark, else good for tshark, and the bytes that scapy makes",
+          agreed, len(requests))
+    return results
+
+
 def check_trailing(made):
     """UDP packets of scapy's with a trailing area: all is as if it weren't there, and it stays as it was."""
     kind, bases = "trailing area, ", [Packet(data) for data in made if Packet(data).protocol == 17]
@@ -577,6 +615,69 @@ def check_trailing(made):
     check_edits(packets, kind)
     check_mended(packets, kind)
     check_bits(packets, kind)
+
+
+def check_delivered(what, want, packets, post):
+    """Packets to the other kernel, by card, and by a raw socket too if they have no tail: its verdict is ours, and of a
+    good one it hands on the datagram and nothing else."""
+    whole = [data for data in packets if len(data) == Packet(data).declared]
+    sent, agreed = [(data, False) for data in packets] + [(data, True) for data in whole], 0
+    for (data, _), we, (they, got) in zip(sent, judged(packets + whole), delivered(post, sent)):
+        packet = Packet(data)
+        if we == they == want and got == [data[packet.body:packet.end]] * (want == GOOD):
+            agreed += 1
+        else:
+            disagree(f"{what}: {want} wanted, we say {we}, the other kernel {they} with {got}", data)
+    found = {
+        GOOD: "good for us and for it, and the datagram alone comes out",
+        SHAPE: "4 for us, and no datagram for it",
+        MESSAGE_SUM: "9 for us, and a wrong sum for it",
+    }
+    count(f"{what}; {found[want]}", agreed, len(sent))
+
+
+def sumless(data):
+    """A packet before it has sums. Over IPv4 another word than 0000 stands for UDP's, since that would be kept."""
+    packet = Packet(data)
+    return with_word(bytes(fieldless(data)), packet.field, 1 if packet.four else 0)
+
+
+def moved_back(packets):
+    """Addresses that we set, to be set to what they were."""
+    away = [address(data) for data in packets]
+    for (_, side, new, data), (_, moved) in zip(away, ours(away)):
+        at = (12 if Packet(data).four else 8) + side * len(new)
+        yield "a", side, data[at:at + len(new)], moved
+
+
+def fits(packet):
+    """Whether a UDP length is one that the request accepts."""
+    return packet.start + 8 <= packet.end <= packet.declared
+
+
+def check_posted(post):
+    """Packets with a trailing area and with our sums, to the other kernel: what is right for us is right for it."""
+    kind, bases = "trailing area, to the other kernel, ", [Packet(addressed(f, size)) for f in (4, 6) for size in SENT]
+    requests = [("m", 0, b"", sumless(data)) for data in with_areas(rng, bases)]
+    mended = check_changed(kind + "mended", requests)
+    requests = [("l", 0, b"", data) for data in mended] + [stretch(data) for data in roomy(mended)]
+    edited = check_changed(kind + "edited", requests + list(moved_back(mended)))
+    packets = [Packet(data) for data in mended]
+    broken = [Packet(damaged(packet, ahead=0)) for packet in packets]
+    check_delivered(kind + "mended by us", GOOD, mended, post)
+    check_delivered(kind + "edited by us", GOOD, edited, post)
+    check_delivered(kind + "damaged by us in the area alone", GOOD, [area_damaged(data) for data in mended], post)
+    check_delivered(kind + "damaged by us in the datagram", MESSAGE_SUM, [packet.data for packet in broken], post)
+    check_delivered(kind + PAST, MESSAGE_SUM, [data for packet in packets for data in summed_past(packet)], post)
+    check_delivered(kind + CHOSEN, MESSAGE_SUM, [data for packet in broken for data in right_if_summed(packet)], post)
+
+    short = [packet for packet in packets if packet.declared - packet.start < 64]
+    sized = [Packet(data) for data in check_lengths(kind + "each UDP length", short[::8])]
+    fit = [packet.data for packet in sized if fits(packet)]
+    check_delivered(kind + "each UDP length from 8 to the message's, mended by us", GOOD, fit, post)
+    # over IPv6 the kernel takes 0 for a jumbogram's, however short the message is, and all of that for the datagram
+    unfit = [packet.data for packet in sized if not fits(packet) and (packet.four or packet.end > packet.start)]
+    check_delivered(kind + "each other UDP length, but for IPv6's 0", SHAPE, unfit, post)
 
 
 def main():
@@ -602,6 +703,7 @@ def main():
     check_full_bits()
     check_fragments(kernel_cut(sys.argv[2], sys.argv[3]))
     check_trailing(made)
+    check_posted(Post(sys.argv[4], sys.argv[5]))
     print("| what | packets | agreed |\n|---|---|---|")
     for what, packets, agreed in table:
         print(f"| {what} | {packets} | {agreed} |")

@@ -108,4 +108,5 @@ kill $relay
 wait $relay || true
 relay=
 
-$python tests/interop/interop.py $out/kernel.pcap $out/seen.pcap $out/sent.pcap $x86 run $out/ours
+# What has a trailing area goes from a to b in here, by the first way.
+$python tests/interop/interop.py $out/kernel.pcap $out/seen.pcap $out/sent.pcap $a $b $x86 run $out/ours

@@ -69,3 +69,9 @@ def right_if_summed(packet):
             chosen = with_word(blank, at, field(packet, length, blank[packet.start:packet.declared]))
             assert field(packet, length, chosen[packet.start:packet.declared]) == 0
             yield chosen
+
+
+def with_lengths(packet):
+    """The packet with every UDP length from 0 to four past the message, and the longest."""
+    for length in (*range(packet.declared - packet.start + 5), 0xFFFF):
+        yield with_word(packet.data, packet.start + 4, length)
