@@ -1,7 +1,6 @@
 // The verdict on a packet: whether its sums are right, and if not, what is wrong with it first.
 //
-// Any bytes may be judged. Nothing is changed, nothing behind the declared end is read, and each covered byte is
-// summed once.
+// Any bytes may be judged. Nothing is changed, nothing of the tail is read, and each covered byte is summed once.
 use verdicts::Verdict;
 use wire::Family;
 use wire::Frame;
