@@ -65,6 +65,10 @@ pub fn udp(packet: &[u8], h: Header, plan: Plan) -> Part
         return Part::Refused(Verdict::Shape);
     }
     let own = word(packet, start + UDP_LENGTH) as usize;
+    if own == length {
+        // mostly: the datagram fills what is carried
+        return placed(h, plan, plan.fixed, h.declared);
+    }
     if own < plan.fixed {
         return Part::Refused(Verdict::Shape);
     }
