@@ -65,20 +65,19 @@ pub fn udp(packet: &[u8], h: Header, plan: Plan) -> Part
         return Part::Refused(Verdict::Shape);
     }
     let own = word(packet, start + UDP_LENGTH) as usize;
-    if own == length {
-        // mostly: the datagram fills what is carried
-        return placed(h, plan, plan.fixed, h.declared);
-    }
-    if own < plan.fixed {
-        return Part::Refused(Verdict::Shape);
-    }
-    if length < own {
-        return Part::Refused(Verdict::Shape);
+    // mostly they are equal: one test
+    if own != length {
+        if own < plan.fixed {
+            return Part::Refused(Verdict::Shape);
+        }
+        if length < own {
+            return Part::Refused(Verdict::Shape);
+        }
     }
     placed(h, plan, plan.fixed, start + own)
 }
 
-// The message whose body begins so many bytes behind its start, and which ends there.
+// The message that ends at a place, its body so many bytes behind its start.
 fn placed(h: Header, plan: Plan, body: usize, end: usize) -> Part
     requires { ⌜ (h .end + plan .field ≤ h .declared) × (h .end + body ≤ h .declared) ⌝ }
     ensures { λ r. ⌜ r ≡ Part.Whole (record { family = h .family; header = h .end; start = h .end; end = end; protocol = h .protocol; field = h .end + plan .field; body = h .end + body; pseudo = plan .pseudo }) ⌝ }

@@ -1,5 +1,6 @@
 -- Each return is a case of `innerOf` for UDP.
 use mathlib.Core.Path.{refl, _∙_}
+use mathlib.Core.Logic.{⊎-elim}
 use native.Mathlib.Omega.{arith}
 use denote.Ref.{now}
 use Rattle.wire.proofs.InnerCases.{Room, room, short, under, past, fits}
@@ -12,27 +13,22 @@ known c = room _ _ (c .pre .0 .0) _ (c .pre .0 .1)
 
 returns-2 : tie.Need-returns-2
 returns-2 c =
-    let s = c .before .before .before .before .before .before .before in
-    let d = s .pre in
-    let k = known s in
-    c .placed .ensures
-    ∙ fits _ _ (d .0 .0) _ (d .0 .1) (omega arith) _ _ (rw (d .1) refl) (rw (d .1) (omega arith)) (rw (d .1) (omega arith)) (rw (d .1) (omega arith))
-
-returns-3 : tie.Need-returns-3
-returns-3 c =
     let d = c .before .before .before .before .before .before .before .before .pre in
     under _ _ (d .0 .0) _ (d .0 .1) (omega arith) (rw (d .1) (omega arith))
 
-returns-4 : tie.Need-returns-4
-returns-4 c =
+returns-3 : tie.Need-returns-3
+returns-3 c =
     let d = c .before .before .before .before .before .before .before .before .before .pre in
     past _ _ (d .0 .0) _ (d .0 .1) (omega arith) (rw (d .1) (omega arith)) (rw (d .1) (omega arith))
 
-returns-5 : tie.Need-returns-5
-returns-5 c =
-    let d = c .before .before .before .before .before .before .before .before .before .before .pre in
-    c .placed2 .ensures
-    ∙ fits _ _ (d .0 .0) _ (d .0 .1) (omega arith) _ _ (rw (d .1) refl) (rw (d .1) (omega arith)) (rw (d .1) (omega arith)) (rw (d .1) (omega arith))
+-- by either way the length is neither below the fixed header nor past what is carried
+returns-4 : tie.Need-returns-4
+returns-4 c =
+    let d = c .before .before .before .before .before .before .before .pre in
+    c .placed .ensures
+    ∙ fits _ _ (d .0 .0) _ (d .0 .1) (omega arith) _ _ (rw (d .1) refl) (rw (d .1) (omega arith))
+    (rw (d .1) (⊎-elim (λ w. omega arith) (λ w. omega arith) (c .before .if2 .came)))
+    (rw (d .1) (⊎-elim (λ w. omega arith) (λ w. omega arith) (c .before .if2 .came)))
 
 pub udp-spec : {M : Type 1} → statement M
 udp-spec =
@@ -43,10 +39,8 @@ udp-spec =
     (λ c. let d = c .before .before .before .before in let k = known d in omega (arith, k .line .udp (d .pre .1)))
     (λ c κs. let d = c .before .before .before .before in let k = known d in omega (arith, k .line .udp (d .pre .1)))
     (λ c. search needs)
-    (λ c κs. let k = known (c .before .before .before .before .before .before) in omega arith)
     returns-2
     returns-3
-    returns-4
-    (λ c. search needs)
-    (λ c κs. let k = known (c .before .before .before .before .before .before .before .before .before) in omega arith)
-    returns-5)
+    (λ c. ⊎-elim (λ w. omega arith) (λ w. omega arith) (c .if2 .came))
+    (λ c κs. let k = known (c .before .before .before .before .before .before) in omega arith)
+    returns-4)
