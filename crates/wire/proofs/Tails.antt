@@ -27,7 +27,7 @@ tail-end p t = rw t
 
 pub tail-same : {p q : List ℕ} → SameLayout p q → tailAt q ≡ tailAt p
 unfolding tailAt
-tail-same s = rw (carries-same s, end-same s, declared-same (s .header))
+tail-same s = simp (carries-same s, end-same s, declared-same (s .header))
 
 -- behind the header, and no later than the declared end
 pub tail-order : {p : List ℕ} → OuterFacts p → (headerEnd p ≤ tailAt p) × (tailAt p ≤ declaredEnd p)
