@@ -36,7 +36,7 @@ module _ (p : List ℕ) where
     declared4 = rw f
 
     pub length4 : Facts p → udp p ≡ false → lengthOf p ≡ wordAt p 2 - ihl p
-    length4 k u = rw (k .rest u, start4, declared4)
+    length4 k u = rw (k .filled u, start4, declared4)
 
     pub protocol4 : protocolOf p ≡ byteAt p 9
     unfolding protocolOf
@@ -64,7 +64,7 @@ module _ (p : List ℕ) where
     declared6 = rw f
 
     pub length6 : Facts p → udp p ≡ false → lengthOf p ≡ wordAt p 4
-    length6 k u = rw (k .rest u, start6, declared6) (omega arith)
+    length6 k u = rw (k .filled u, start6, declared6) (omega arith)
 
     pub protocol6 : protocolOf p ≡ byteAt p 6
     unfolding protocolOf

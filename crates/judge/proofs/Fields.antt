@@ -43,13 +43,13 @@ module _ (p : List ℕ) (s : Shaped p) where
     module _ (size : ℕ) where
       -- ICMP and ICMPv6, TCP, UDP
       plainly : declaredEnd p ≡ first + size → (n ≡ 6 → ⊥) → (n ≡ 17 → ⊥) → Stands p first place fixed size summed
-      plainly d o u = (field, body o, known .rest (ne-eqb (protocolOf p) 17 (λ e. u (sym (l .protocol) ∙ e))) ∙ d, before)
+      plainly d o u = (field, body o, known .filled (ne-eqb (protocolOf p) 17 (λ e. u (sym (l .protocol) ∙ e))) ∙ d, before)
 
       by-offset : declaredEnd p ≡ first + size → n ≡ 6 → Stands p first place (tcpHeader p first) size summed
       by-offset d e =
           let t : tcp p ≡ true = eq-eqb (protocolOf p) 6 (l .protocol ∙ e) in
           let u : udp p ≡ false = ne-eqb (protocolOf p) 17 (λ x. omega (arith, l .protocol)) in
-          (field, known .tcp t .2 ∙ ap (λ x. x + tcpHeader p x) start, known .rest u ∙ d, before)
+          (field, known .tcp t .2 ∙ ap (λ x. x + tcpHeader p x) start, known .filled u ∙ d, before)
 
     datagrammed : n ≡ 17 → Stands p first place fixed (datagramLength p first) summed
     datagrammed e =

@@ -9,7 +9,7 @@ use borrow.Author.Tests.{ltb-false}
 use Rattle.verdicts.specs.Rules.{clear}
 use Rattle.verdicts.proofs.Tests.{by-cases}
 use Rattle.verdicts.proofs.Rules.{clear-both}
-use Rattle.verdicts.proofs.Calls.{Alike, alike-self, alike-append, calls-alike}
+use Rattle.verdicts.proofs.Calls.{RulesAlike, alike-self, alike-append, calls-alike}
 use Rattle.wire.specs.Bytes.{byteAt, Bytes}
 use Rattle.wire.specs.Outer.{four, headerField, lifetimeAt, addressesAt}
 use Rattle.wire.specs.Inner.{startOf, endOf, lengthOf, fieldAt, bodyOf, pseudo, silentOf, wholeRules, tailAt, UpToTail}
@@ -65,11 +65,11 @@ module _ {p q : List ℕ} (a : UpToTail p q) where
         rw (field-same h, start-same h, end-same (tail-layout a))
         (ap allZero (agree-part (agree-put g (fieldAt p) (0 ∷ 0 ∷ []) field-in) (startOf p) (lengthOf p) (omega (arith, tail-end p (clear-carries p w)))))
 
-    missing-alike : Alike (missingRule p) (missingRule q)
+    missing-alike : RulesAlike (missingRule p) (missingRule q)
     missing-alike = (rw (tail-silent a w, four-same (tail-layout a .header)), refl, λ f. tt)
 
     -- what a stretch that fits would make blank
-    stretch-alike : (place : ℕ) (new : List ℕ) → Alike (stretchRules p place new) (stretchRules q place new)
+    stretch-alike : (place : ℕ) (new : List ℕ) → RulesAlike (stretchRules p place new) (stretchRules q place new)
     stretch-alike place new =
         let h = tail-layout a .header in
         let k = whole-facts p w in
@@ -82,7 +82,7 @@ module _ {p q : List ℕ} (a : UpToTail p q) where
               (rw (protocol-same h, b, blank-alike agree, blank-alike g), refl, λ z. tt),
         )
 
-  edit-alike : Alike (editRules p) (editRules q)
+  edit-alike : RulesAlike (editRules p) (editRules q)
   unfolding editRules
   edit-alike =
       rw (whole-same (tail-layout a)) (alike-append (wholeRules p) (wholeRules p) (missingRule p) (missingRule q) (alike-self (wholeRules p)) missing-alike)
@@ -96,7 +96,7 @@ module _ {p q : List ℕ} (a : UpToTail p q) where
       let o = tail-order k in
       a .same (lifetimeAt p) (by-cases (four p) (λ f. simp f (omega arith)) (λ f. simp f (omega arith)))
 
-  rules-alike : (e : Edit) → Alike (rulesOf e p) (rulesOf e q)
+  rules-alike : (e : Edit) → RulesAlike (rulesOf e p) (rulesOf e q)
   rules-alike lifetime = rw (tail-layout a .outer, lifetime-place, lifetime-alike) (alike-self (rulesOf lifetime p))
   rules-alike (address side new) =
       rw (four-same (tail-layout a .header))

@@ -47,24 +47,24 @@ module _ {S : Type 0} (rules : List Rule) (p q : S) where
 
 -- ---- two calls
 -- by rules that are the same as far as they are asked: each test where no earlier one holds
-abbrev pub Alike : List Rule → List Rule → Type 0
-Alike [] [] = Unit
-Alike [] (s ∷ others) = ⊥
-Alike (r ∷ rules) [] = ⊥
-Alike ((b ⇒ v) ∷ rules) ((c ⇒ w) ∷ others) = (c ≡ b) × (w ≡ v) × (b ≡ false → Alike rules others)
+abbrev pub RulesAlike : List Rule → List Rule → Type 0
+RulesAlike [] [] = Unit
+RulesAlike [] (s ∷ others) = ⊥
+RulesAlike (r ∷ rules) [] = ⊥
+RulesAlike ((b ⇒ v) ∷ rules) ((c ⇒ w) ∷ others) = (c ≡ b) × (w ≡ v) × (b ≡ false → RulesAlike rules others)
 
-pub alike-self : (rules : List Rule) → Alike rules rules
+pub alike-self : (rules : List Rule) → RulesAlike rules rules
 alike-self [] = tt
 alike-self ((b ⇒ v) ∷ rules) = (refl, refl, λ f. alike-self rules)
 
-pub alike-append : (rules others more also : List Rule) → Alike rules others → (clear rules → Alike more also) → Alike (rules ++ more) (others ++ also)
+pub alike-append : (rules others more also : List Rule) → RulesAlike rules others → (clear rules → RulesAlike more also) → RulesAlike (rules ++ more) (others ++ also)
 alike-append [] [] more also a n = n tt
 alike-append [] (s ∷ others) more also a n = absurd a
 alike-append (r ∷ rules) [] more also a n = absurd a
 alike-append ((b ⇒ v) ∷ rules) ((c ⇒ w) ∷ others) more also a n = (a .0, a .1, λ f. alike-append rules others more also (a .2 f) (λ c. n (f, c)))
 
 -- they answer alike, and what relates what they were lent, and what they made, relates what they leave
-pub calls-alike : {S : Type 0} (R : S → S → Type 0) {p q made done : S} (rules others : List Rule) → Alike rules others → R p q → (clear rules → R made done)
+pub calls-alike : {S : Type 0} (R : S → S → Type 0) {p q made done : S} (rules others : List Rule) → RulesAlike rules others → R p q → (clear rules → R made done)
     → (called others q done .0 ≡ called rules p made .0) × R (called rules p made .1) (called others q done .1)
 calls-alike R [] [] a l m = (refl, m tt)
 calls-alike R [] (s ∷ others) a l m = absurd a

@@ -94,7 +94,7 @@ pub record Facts (p : List ℕ) : Type 0 where
   pub body : bodyOf p ≤ endOf p
   pub whole : endOf p ≤ declaredEnd p
   pub proto : 0 < protocolOf p
-  pub rest : udp p ≡ false → endOf p ≡ declaredEnd p
+  pub filled : udp p ≡ false → endOf p ≡ declaredEnd p
   pub tcp : tcp p ≡ true → (fieldAt p ≡ startOf p + 16) × (startOf p + 20 ≤ bodyOf p) × (bodyOf p ≡ startOf p + byteAt p (startOf p + 12) / 16 * 4)
   pub udp : udp p ≡ true → (fieldAt p ≡ startOf p + 6) × (startOf p + 8 ≤ bodyOf p) × (wordAt p (startOf p + 4) ≡ lengthOf p)
   pub plain : pseudo p ≡ false → protocolOf p ≡ 1
@@ -137,7 +137,7 @@ module _ (p : List ℕ) (s : clear (outerRules p)) (m : clear (messageRules p)) 
             (λ u. by-cases (tcp p) (λ t. simp (u, t) (omega arith)) (λ t. simp (u, t) (omega arith)));
         whole = by-cases (udp p) (λ u. simp u (omega arith)) (λ u. simp u (omega arith));
         proto = r .some;
-        rest = λ u. simp u (omega arith);
+        filled = λ u. simp u (omega arith);
         tcp = λ t.
             let q = r .tcp (eqb-true (protocolOf p) 6 t) in
             (omega arith, simp t (omega arith), simp (t, said-tcp (protocolOf p) (carriedOf p) t, carried-byte k 12 (omega arith)));
