@@ -14,9 +14,9 @@ use Rattle.sums.proofs.Folds.{fold-sum}
 use Rattle.sums.proofs.Totals.{even-append, weigh-even, low-times}
 use Rattle.sums.proofs.Rests.{more-eight, more-end}
 use Rattle.wire.specs.Bytes.{part}
-use Rattle.wire.specs.Outer.{four, familyOf, protocolOf, addressesAt, addressesLength}
+use Rattle.wire.specs.Outer.{four, familyOf, addressesAt, addressesLength}
 use Rattle.wire.specs.Messages.{planIn, restIn, beforeIn}
-use Rattle.wire.specs.Inner.{startOf, endOf, lengthOf, messageBytes, pseudo, addressesOf, beforeOf, coveredOf}
+use Rattle.wire.specs.Inner.{protocolOf, startOf, endOf, lengthOf, messageBytes, pseudo, addressesOf, beforeOf, coveredOf}
 use Rattle.wire.specs.declared.Family.{Family}
 use Rattle.wire.specs.declared.Family.the-variants.{Four, Six}
 use Rattle.wire.proofs.Parts.{part-length}

@@ -9,9 +9,9 @@ use Rattle.verdicts.proofs.Tests.{by-cases}
 use Rattle.sums.specs.Partials.{partialOf, joinOf}
 use Rattle.sums.proofs.Joins.{join-string}
 use Rattle.wire.specs.Bytes.{Bytes}
-use Rattle.wire.specs.Outer.{four, familyOf, headerEnd, declaredEnd, protocolOf, addressesAt, addressesLength}
+use Rattle.wire.specs.Outer.{four, familyOf, headerEnd, declaredEnd, addressesAt, addressesLength}
 use Rattle.wire.specs.Messages.{planIn, restIn, beforeIn}
-use Rattle.wire.specs.Inner.{lengthOf, startOf, messageBytes, addressesOf, beforeOf, headerBytes, coveredOf}
+use Rattle.wire.specs.Inner.{protocolOf, lengthOf, startOf, messageBytes, addressesOf, beforeOf, headerBytes, coveredOf}
 use Rattle.wire.specs.declared.Family.{Family}
 use Rattle.wire.specs.declared.Family.the-variants.{Four, Six}
 use Rattle.wire.proofs.Parts.{part-length}

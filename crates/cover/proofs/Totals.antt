@@ -9,9 +9,9 @@ use Rattle.verdicts.proofs.Tests.{by-cases}
 use Rattle.sums.specs.Total.{weigh, total}
 use Rattle.sums.proofs.Totals.{weigh-even}
 use Rattle.wire.specs.Bytes.{part}
-use Rattle.wire.specs.Outer.{familyOf, headerEnd, protocolOf, addressesAt, addressesLength}
+use Rattle.wire.specs.Outer.{familyOf, headerEnd, addressesAt, addressesLength}
 use Rattle.wire.specs.Messages.{restIn, beforeIn}
-use Rattle.wire.specs.Inner.{startOf, lengthOf, pseudo}
+use Rattle.wire.specs.Inner.{protocolOf, startOf, lengthOf, pseudo}
 use Rattle.wire.proofs.Facts.{Facts}
 use Rattle.wire.proofs.Same.{Same, header-end-same, covered-at}
 use Rattle.cover.specs.Sums.{headerTotal, messageTotal}

@@ -10,8 +10,7 @@ use Rattle.verdicts.specs.declared.Verdict.{Verdict}
 use Rattle.verdicts.specs.declared.Verdict.the-variants.{Good, Place, Blank}
 use Rattle.verdicts.proofs.Tests.{by-cases, and-true}
 use Rattle.wire.specs.Bytes.{put}
-use Rattle.wire.specs.Outer.{protocolOf}
-use Rattle.wire.specs.Inner.{bodyOf, endOf, startOf}
+use Rattle.wire.specs.Inner.{protocolOf, bodyOf, endOf, startOf}
 use Rattle.kept.specs.Update.{messageAfter}
 use Rattle.kept.specs.Edits.{blank}
 use Rattle.edit.specs.Rest.{stretchIn}

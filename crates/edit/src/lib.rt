@@ -19,6 +19,7 @@ use verdicts::Verdict;
 use wire::Family;
 use wire::Frame;
 use wire::Part;
+use wire::Walked;
 ghost use mathlib.Core.Path.{_≡_};
 ghost use Rattle.kept.specs.Edits.{lifetimeOf, addressOf, stretchOf};
 
@@ -47,13 +48,16 @@ pub fn set_address(packet: &mut [u8], side: u32, address: &[u8]) -> Verdict
     match frame {
         Frame::Refused(v) => v,
         Frame::Ip(h) => {
-            if h.fragment {
-                return Verdict::Fragment;
-            }
-            let part = wire::inner(packet, h);
-            match part {
-                Part::Refused(v) => v,
-                Part::Whole(m) => set_side(packet, m, side, address),
+            let walked = wire::walk(packet, h);
+            match walked {
+                Walked::Refused(v) => v,
+                Walked::Reached(c) => {
+                    let part = wire::inner(packet, c);
+                    match part {
+                        Part::Refused(v) => v,
+                        Part::Whole(m) => set_side(packet, m, side, address),
+                    }
+                }
             }
         }
     }
@@ -67,13 +71,16 @@ pub fn set_stretch(packet: &mut [u8], place: usize, bytes: &[u8]) -> Verdict
     match frame {
         Frame::Refused(v) => v,
         Frame::Ip(h) => {
-            if h.fragment {
-                return Verdict::Fragment;
-            }
-            let part = wire::inner(packet, h);
-            match part {
-                Part::Refused(v) => v,
-                Part::Whole(m) => set_within(packet, m, place, bytes),
+            let walked = wire::walk(packet, h);
+            match walked {
+                Walked::Refused(v) => v,
+                Walked::Reached(c) => {
+                    let part = wire::inner(packet, c);
+                    match part {
+                        Part::Refused(v) => v,
+                        Part::Whole(m) => set_within(packet, m, place, bytes),
+                    }
+                }
             }
         }
     }

@@ -4,15 +4,17 @@ use Prim.Native.Nat.{ℕ}
 use mathlib.Core.List.{List}
 use mathlib.Core.Bool.{true, false}
 use Rattle.verdicts.specs.declared.Verdict.{Verdict}
-use Rattle.verdicts.specs.declared.Verdict.the-variants.{Good, Unsummed, HeaderSum, Fragment, Missing, MessageSum}
+use Rattle.verdicts.specs.declared.Verdict.the-variants.{Good, Unsummed, HeaderSum, Missing, MessageSum}
 use Rattle.sums.specs.Fold.{passes}
-use Rattle.wire.specs.Outer.{four, outerOf, fragmentOf}
-use Rattle.wire.specs.Inner.{silentOf, innerOf}
+use Rattle.wire.specs.Outer.{four, outerOf}
+use Rattle.wire.specs.Inner.{silentOf, wayOf, innerOf}
 use Rattle.wire.specs.declared.Header.{Header}
 use Rattle.wire.specs.declared.Frame.the-variants.{Refused, Ip}
+use Rattle.wire.specs.declared.Carried.{Carried}
+use Rattle.wire.specs.declared.Walked.the-variants as way
 use Rattle.wire.specs.declared.Message.{Message}
 use Rattle.wire.specs.declared.Part.the-variants as part
-use Rattle.wire.proofs.Held.{after-outer, after-inner}
+use Rattle.wire.proofs.Held.{after-outer, after-walk, after-inner}
 use Rattle.cover.specs.Sums.{headerTotal, headerSums, messageSums}
 use Rattle.judge.specs.Judge.{judgeOf, judgeRules, sumRules, messageVerdict}
 
@@ -25,17 +27,18 @@ module _ (p : List ℕ) (h : Header) (e : Ip h ≡ outerOf p) where
   unfolding judgeOf judgeRules
   unsound s = simp (after-outer, sym e, s)
 
-  pub split : headerSums p ≡ true → fragmentOf p ≡ true → Fragment ≡ judgeOf p
+  pub lost : headerSums p ≡ true → (v : Verdict) → way.Refused v ≡ wayOf p → v ≡ judgeOf p
   unfolding judgeOf judgeRules
-  split s f = simp (after-outer, sym e, s, f)
+  lost s v w = simp (after-outer, sym e, s, after-walk, sym w)
 
-  pub unfit : headerSums p ≡ true → fragmentOf p ≡ false → (v : Verdict) → part.Refused v ≡ innerOf p → v ≡ judgeOf p
-  unfolding judgeOf judgeRules
-  unfit s f v i = simp (after-outer, sym e, s, f, after-inner, sym i)
+  module _ (s : headerSums p ≡ true) (c : Carried) (w : way.Reached c ≡ wayOf p) where
+    pub unfit : (v : Verdict) → part.Refused v ≡ innerOf p → v ≡ judgeOf p
+    unfolding judgeOf judgeRules
+    unfit v i = simp (after-outer, sym e, s, after-walk, sym w, after-inner, sym i)
 
-  pub summed : headerSums p ≡ true → fragmentOf p ≡ false → (m : Message) → part.Whole m ≡ innerOf p → messageVerdict p ≡ judgeOf p
-  unfolding judgeOf judgeRules messageVerdict
-  summed s f m i = simp (after-outer, sym e, s, f, after-inner, sym i)
+    pub summed : (m : Message) → part.Whole m ≡ innerOf p → messageVerdict p ≡ judgeOf p
+    unfolding judgeOf judgeRules messageVerdict
+    summed m i = simp (after-outer, sym e, s, after-walk, sym w, after-inner, sym i)
 
 module _ (p : List ℕ) where
   pub unsummed : silentOf p ≡ true → four p ≡ true → Unsummed ≡ messageVerdict p

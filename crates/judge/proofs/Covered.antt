@@ -7,17 +7,17 @@ use mathlib.Core.List.{List, [], _∷_, _++_, append-assoc}
 use mathlib.Core.Bool.{true, false}
 use Rattle.verdicts.proofs.Tests.{by-cases}
 use Rattle.wire.specs.Bytes.{byteAt, wordAt, part, Bytes}
-use Rattle.wire.specs.Outer.{four, familyOf, headerEnd, declaredEnd, protocolOf, addressesAt, addressesLength}
+use Rattle.wire.specs.Outer.{four, familyOf, headerEnd, declaredEnd, nextOf, fragmentOf, addressesAt, addressesLength}
 use Rattle.wire.specs.Messages.{restIn}
-use Rattle.wire.specs.Inner.{startOf, lengthOf, messageBytes, udp, pseudo, headerBytes, addressesOf, beforeOf, coveredOf}
+use Rattle.wire.specs.Inner.{protocolOf, startOf, lengthOf, messageBytes, udp, pseudo, headerBytes, addressesOf, beforeOf, coveredOf}
 use Rattle.wire.specs.declared.Family.{Family}
 use Rattle.wire.specs.declared.Family.the-variants.{Four, Six}
 use Rattle.wire.proofs.Parts.{part-add, Small, bytes-append, bytes-small, bytes-part}
-use Rattle.wire.proofs.Facts.{Facts}
+use Rattle.wire.proofs.Facts.{Facts, walk-four, start-four}
 use Rattle.wire.proofs.Same.{same-self, covered-at}
 use Rattle.wire.proofs.Held.{before-is, family4, family6}
 use Rattle.cover.specs.Sums.{headerTotal, messageTotal, headerSums, messageSums}
-use Rattle.judge.specs.Rfc.{Right, ihl, data4, pseudo4, pseudo6}
+use Rattle.judge.specs.Rfc.{Right, ihl, data4, upperLength, pseudo4, pseudo6}
 use Rattle.judge.proofs.Ones.{right-passes}
 
 module _ (p : List ℕ) where
@@ -28,8 +28,7 @@ module _ (p : List ℕ) where
     end4 = rw f
 
     pub start4 : startOf p ≡ ihl p
-    unfolding startOf
-    start4 = end4
+    start4 = start-four p f ∙ end4
 
     pub declared4 : declaredEnd p ≡ wordAt p 2
     unfolding declaredEnd
@@ -38,9 +37,12 @@ module _ (p : List ℕ) where
     pub length4 : Facts p → udp p ≡ false → lengthOf p ≡ wordAt p 2 - ihl p
     length4 k u = rw (k .filled u, start4, declared4)
 
-    pub protocol4 : protocolOf p ≡ byteAt p 9
-    unfolding protocolOf
-    protocol4 = rw f
+    pub protocol4 : Facts p → protocolOf p ≡ byteAt p 9
+    unfolding protocolOf nextOf
+    protocol4 k =
+        by-cases (fragmentOf p)
+        (λ s. let z : protocolOf p ≡ 0 = rw (walk-four p f, s) in absurd (omega (arith, k .proto)))
+        (λ s. rw (walk-four p f, s) (rw f))
 
     pub covered4 : Facts p → pseudo p ≡ true → (n size : ℕ) → protocolOf p ≡ n → lengthOf p ≡ size → coveredOf p ≡ pseudo4 p n size ++ part p (ihl p) size
     covered4 k t n size en es =
@@ -55,22 +57,14 @@ module _ (p : List ℕ) where
 
   -- ---- IPv6
   module _ (f : four p ≡ false) where
-    pub start6 : startOf p ≡ 40
-    unfolding startOf headerEnd
-    start6 = rw f
-
     pub declared6 : declaredEnd p ≡ 40 + wordAt p 4
     unfolding declaredEnd
     declared6 = rw f
 
-    pub length6 : Facts p → udp p ≡ false → lengthOf p ≡ wordAt p 4
-    length6 k u = rw (k .filled u, start6, declared6) (omega arith)
+    pub length6 : Facts p → udp p ≡ false → lengthOf p ≡ upperLength p (startOf p)
+    length6 k u = let o = k .outer .six f in rw (k .filled u, declared6) (omega (arith, k .whole))
 
-    pub protocol6 : protocolOf p ≡ byteAt p 6
-    unfolding protocolOf
-    protocol6 = rw f
-
-    pub covered6 : Facts p → pseudo p ≡ true → (n size : ℕ) → size ≤ 65535 → protocolOf p ≡ n → lengthOf p ≡ size → coveredOf p ≡ pseudo6 p n size ++ part p 40 size
+    pub covered6 : Facts p → pseudo p ≡ true → (n size : ℕ) → size ≤ 65535 → protocolOf p ≡ n → lengthOf p ≡ size → coveredOf p ≡ pseudo6 p n size ++ part p (startOf p) size
     covered6 k t n size h en es =
         let rest : List ℕ = 0 ∷ 0 ∷ size / 256 ∷ size % 256 ∷ 0 ∷ 0 ∷ 0 ∷ n ∷ [] in
         let a : size / 16777216 ≡ 0 = omega arith in
@@ -78,21 +72,18 @@ module _ (p : List ℕ) where
         let c : size / 256 % 256 ≡ size / 256 = omega arith in
         let before : beforeOf p ≡ pseudo6 p n size =
         before-is p t ∙ simp (family6 p f, f, en, es, a, b, c) (ap (λ l. l ++ rest) (part-add p 8 16 16) ∙ append-assoc (part p 8 16) (part p 24 16) rest) in
-        covered-at (same-self p) k ∙ ap₂ _++_ before (ap₂ (part p) start6 es)
+        covered-at (same-self p) k ∙ ap₂ _++_ before (ap (part p (startOf p)) es)
 
   module _ (b : Bytes p) (k : Facts p) where
     length-small : lengthOf p ≤ 65535
     length-small =
         by-cases (four p)
         (λ f. omega (arith, declared4 f, b 2, b 3))
-        (λ f. omega (arith, declared6 f, start6 f, b 4, b 5))
-
-    protocol-small : protocolOf p < 256
-    protocol-small = by-cases (four p) (λ f. rw (protocol4 f) (b 9)) (λ f. rw (protocol6 f) (b 6))
+        (λ f. let o = k .outer .six f in omega (arith, declared6 f, b 4, b 5))
 
     rest-small : (family : Family) → Small (restIn family (protocolOf p) (lengthOf p))
-    rest-small Four = let n = protocol-small in let l = length-small in omega arith
-    rest-small Six = let n = protocol-small in let l = length-small in omega arith
+    rest-small Four = let n = k .small in let l = length-small in omega arith
+    rest-small Six = let n = k .small in let l = length-small in omega arith
 
     before-bytes : Bytes (beforeOf p)
     unfolding pseudo

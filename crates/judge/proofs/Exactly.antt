@@ -7,28 +7,33 @@ use mathlib.Core.List.{List, _++_}
 use mathlib.Core.Bool.{Bool, false, not, _&&_, _||_, true≢false}
 use lib.ListN.{length}
 use lib.Dec.{ltb, eqb}
-use borrow.Author.Tests.{ltb-false, eqb-true, eqb-false, not-false}
+use borrow.Author.Tests.{ltb-false, eqb-true, eqb-false, eq-eqb, ne-eqb, not-false}
 use Rattle.verdicts.specs.Choice.{if_then_else_}
 use Rattle.verdicts.specs.Numbers.{numberOf}
 use Rattle.verdicts.specs.Rules.{clear, Decides, Comes}
 use Rattle.verdicts.specs.declared.Verdict.{Verdict}
+use Rattle.verdicts.specs.declared.Verdict.the-variants.{Shape, Fragment, Uncovered}
 use Rattle.verdicts.proofs.Tests.{by-cases}
 use Rattle.verdicts.proofs.Rules.{decides, decided, ranked}
 use Rattle.verdicts.proofs.Telling.{Tells, yes-tells, no-tells, eqb-tells, ltb-tells, not-tells, and-tells, or-tells, as-tells, Told, next, told-append, told-exactly}
 use Rattle.sums.specs.Fold.{passes}
 use Rattle.sums.proofs.Passing.{passing, passed}
 use Rattle.wire.specs.Bytes.{byteAt, wordAt}
-use Rattle.wire.specs.Outer.{versionOf, familyOf, four, six, leastOf, header4Of, declaredEnd, protocolOf, splitOf, fragmentOf, outerRules, fragmentRule}
+use Rattle.wire.specs.Outer.{versionOf, familyOf, four, six, leastOf, header4Of, declaredEnd, splitOf, fragmentOf, outerRules}
+use Rattle.wire.specs.Walk.{refused, walkOf, ends, walkRules}
+use Rattle.wire.specs.Chain.{WalksTo}
 use Rattle.wire.specs.Table.{uncovered, planOf}
 use Rattle.wire.specs.Messages.{shapeRules}
-use Rattle.wire.specs.Inner.{startOf, rowIn, udp, silentOf, headerBytes, messageRules, wholeRules}
+use Rattle.wire.specs.Inner.{protocolOf, startOf, rowIn, udp, silentOf, headerBytes, messageRules, wholeRules}
 use Rattle.wire.proofs.Lines.{covered, row-lined}
-use Rattle.wire.proofs.Facts.{outer-facts, carried-length, facts}
+use Rattle.wire.proofs.Facts.{outer-facts, walk-four, carried-length, facts}
+use Rattle.wire.proofs.Held.{Three}
+use Rattle.wire.proofs.Walks.{walk-ends, ends-walk, walk-ends-in}
 use Rattle.wire.proofs.InnerCases.{said-at}
 use Rattle.wire.proofs.Same.{same-self, silent-at}
 use Rattle.cover.specs.Sums.{headerTotal, messageTotal, headerSums, messageSums}
 use Rattle.judge.specs.Judge.{headerSumRule, missingRule, sumRules, judgeRules, judgeOf}
-use Rattle.judge.specs.Cases.{Pass, Listed, outerCases, headerSumCase, fragmentCase, messageCases, missingCase, unsummedCase, messageSumCase, judgeCases, wholeCases}
+use Rattle.judge.specs.Cases.{Pass, Listed, outerCases, headerSumCase, walkCases, messageCases, missingCase, unsummedCase, messageSumCase, judgeCases, wholeCases}
 use Rattle.judge.proofs.Protocols.{Kind, icmp, tcp4, udp4, none4, tcp6, udp6, icmp6, none6, kind, listed}
 
 -- the general law: v is that of the first rule that holds
@@ -99,12 +104,43 @@ module _ (p : List ℕ) where
       (λ f. simp f (as-tells (not-tells _ (passes-tells (headerTotal p))) (λ h. (eqb-true (versionOf p) 4 f, h)) (λ h. h .1)))
       (λ f. simp f (no-tells (λ h. eqb-false (versionOf p) 4 f (h .0))))
 
-  split-tells : Tells (fragmentOf p) ((versionOf p ≡ 4) × ((wordAt p 6 / 8192 % 2 ≡ 1) ⊎ (wordAt p 6 % 8192 ≢ 0)))
-  unfolding fragmentOf
+  split-tells : Tells (splitOf (wordAt p 6)) ((wordAt p 6 / 8192 % 2 ≡ 1) ⊎ (wordAt p 6 % 8192 ≢ 0))
   split-tells =
       let w = wordAt p 6 in
-      and-tells (four p) (splitOf w) four-tells
-      (or-tells (eqb (w / 8192 % 2) 1) (not (eqb (w % 8192) 0)) (eqb-tells (w / 8192 % 2) 1) (not-tells (eqb (w % 8192) 0) (eqb-tells (w % 8192) 0)))
+      or-tells (eqb (w / 8192 % 2) 1) (not (eqb (w % 8192) 0)) (eqb-tells (w / 8192 % 2) 1) (not-tells (eqb (w % 8192) 0) (eqb-tells (w % 8192) 0))
+
+  not6 : (A : Type 0) → versionOf p ≡ 4 → ¬ ((versionOf p ≡ 6) × A)
+  not6 A v h = omega arith
+
+  -- over IPv4 a fragment alone ends the walk
+  walk-tells4 : versionOf p ≡ 4 → Told (walkRules p) (walkCases p)
+  unfolding walkRules fragmentOf
+  walk-tells4 v =
+      let f = eq-eqb (versionOf p) 4 v in
+      by-cases (fragmentOf p)
+      (λ s. rw (walk-four p f, s)
+      (next (yes-tells (inl (v, split-tells .0 (simp f at s))), refl) λ a. absurd (true≢false a)))
+      (λ s. rw (walk-four p f, s)
+      (next (no-tells (⊎-elim (λ h. split-tells .1 (simp f at s) (h .1)) (not6 _ v)), refl) λ a.
+      next (no-tells (not6 _ v), refl) λ b.
+      next (no-tells (not6 _ v), refl) λ c.
+      tt))
+
+  -- over IPv6 it ends as a chain of at most eight headers does
+  ends-tells : (v : Verdict) → Three v → versionOf p ≡ 6 → Tells (ends (walkOf p) v) ((versionOf p ≡ 6) × WalksTo p (refused v))
+  ends-tells v t i =
+      let f = ne-eqb (versionOf p) 4 (λ e. omega arith) in (
+        λ e. (i, rw (walk-ends-in p v t e) at (walk-ends p f)),
+        λ e h. true≢false (sym (eq-eqb (numberOf v) (numberOf v) refl) ∙ rw (ends-walk p f (h .1)) at e),
+      )
+
+  walk-tells6 : versionOf p ≡ 6 → Told (walkRules p) (walkCases p)
+  unfolding walkRules
+  walk-tells6 v =
+      next (as-tells (ends-tells Fragment (inl refl) v) inr (⊎-elim (λ h. absurd (omega arith)) (λ h. h)), refl) λ a.
+      next (ends-tells Uncovered (inr (inl refl)) v, refl) λ b.
+      next (ends-tells Shape (inr (inr refl)) v, refl) λ c.
+      tt
 
   listed-tells : Kind p → Tells (uncovered (rowIn p)) (¬ Listed (versionOf p) (protocolOf p))
   listed-tells k =
@@ -136,6 +172,9 @@ module _ (p : List ℕ) where
       tt
 
   module _ (o : clear (outerRules p)) where
+    walk-told : Told (walkRules p) (walkCases p)
+    walk-told = by-cases (four p) (λ f. walk-tells4 (eqb-true (versionOf p) 4 f)) (λ f. walk-tells6 (outer-facts p o .six f .1))
+
     message-told : Told (messageRules p) (messageCases p)
     unfolding outerRules messageRules shapeRules
     message-told =
@@ -188,17 +227,17 @@ module _ (p : List ℕ) where
   unfolding judgeRules
   judge-told =
       let sums = missingCase p ++ (unsummedCase p ++ messageSumCase p) in
-      told-append (outerRules p) (headerSumRule p ++ (fragmentRule p ++ (messageRules p ++ sumRules p)))
-      (outerCases p) (headerSumCase p ++ (fragmentCase p ++ (messageCases p ++ sums))) outer-told λ o.
+      told-append (outerRules p) (headerSumRule p ++ (walkRules p ++ (messageRules p ++ sumRules p)))
+      (outerCases p) (headerSumCase p ++ (walkCases p ++ (messageCases p ++ sums))) outer-told λ o.
       next (header-tells, refl) λ h.
-      next (split-tells, refl) λ f.
+      told-append (walkRules p) (messageRules p ++ sumRules p) (walkCases p) (messageCases p ++ sums) (walk-told o) λ w.
       told-append (messageRules p) (sumRules p) (messageCases p) sums (message-told o) (sum-told o)
 
   pub whole-told : Told (wholeRules p) (wholeCases p)
   unfolding wholeRules
   whole-told =
-      told-append (outerRules p) (fragmentRule p ++ messageRules p) (outerCases p) (fragmentCase p ++ messageCases p) outer-told λ o.
-      next (split-tells, refl) λ f.
+      told-append (outerRules p) (walkRules p ++ messageRules p) (outerCases p) (walkCases p ++ messageCases p) outer-told λ o.
+      told-append (walkRules p) (messageRules p) (walkCases p) (messageCases p) (walk-told o) λ w.
       message-told o
 
 -- each verdict exactly in its case
@@ -208,7 +247,7 @@ exactly v p = told-exactly (judgeRules p) (judgeCases p) (judge-told p) v
 
 -- 10 to 16 never come from the judge
 pub at-most-nine : (p : List ℕ) → numberOf (judgeOf p) ≤ 9
-unfolding judgeOf judgeRules outerRules messageRules shapeRules sumRules
+unfolding judgeOf judgeRules outerRules walkRules messageRules shapeRules sumRules
 at-most-nine p = ranked (λ v. numberOf v ≤ 9) (judgeRules p) (omega arith) (omega arith)
 
 -- a promise that is one equation, as every one of the layout's and the judge's is, allows one answer

@@ -8,16 +8,17 @@ use mathlib.Core.Bool.{Bool, true, false, true≢false}
 use borrow.Author.Tests.{eq-eqb, ne-eqb}
 use Rattle.verdicts.specs.Rules.{clear}
 use Rattle.wire.specs.Bytes.{byteAt, wordAt}
-use Rattle.wire.specs.Outer.{four, versionOf, declaredEnd, protocolOf, outerRules}
+use Rattle.wire.specs.Outer.{four, versionOf, declaredEnd, outerRules}
 use Rattle.wire.specs.Table.{planOf}
 use Rattle.wire.specs.Messages.{shapeRules}
-use Rattle.wire.specs.Inner.{startOf, rowIn, tcp, udp, fieldAt, bodyOf, pseudo, messageRules, wholeRules}
+use Rattle.wire.specs.Inner.{protocolOf, startOf, rowIn, tcp, udp, fieldAt, bodyOf, pseudo, messageRules, wholeRules}
 use Rattle.wire.specs.declared.Row.{Row}
 use Rattle.wire.specs.declared.Row.the-variants.{Uncovered}
 use Rattle.wire.proofs.Facts.{Facts, facts}
-use Rattle.judge.specs.Rfc.{ihl, datagramLength, Stands, tcpHeader, Fields4, Fields6, fieldsByRfc}
+use Rattle.judge.specs.Rfc.{ihl, upperLength, datagramLength, Stands, tcpHeader, Fields4, FieldsAt, Fields6, fieldsByRfc}
 use Rattle.judge.proofs.Accepts.{Shaped, shaped}
-use Rattle.judge.proofs.Covered.{start4, declared4, protocol4, start6, declared6, protocol6}
+use Rattle.judge.proofs.Covered.{start4, declared4, protocol4, declared6}
+use Rattle.judge.proofs.Leads.{led}
 use Rattle.judge.proofs.Protocols.{Line, Kind, icmp, tcp4, udp4, none4, tcp6, udp6, icmp6, none6, plan, kind}
 
 module _ (p : List ℕ) (s : Shaped p) where
@@ -63,13 +64,17 @@ module _ (p : List ℕ) (s : Shaped p) where
   start-at4 v = start4 p (eq-eqb (versionOf p) 4 v)
 
   protocol-at4 : {n : ℕ} → versionOf p ≡ 4 → protocolOf p ≡ n → byteAt p 9 ≡ n
-  protocol-at4 v e = sym (protocol4 p (eq-eqb (versionOf p) 4 v)) ∙ e
+  protocol-at4 v e = sym (protocol4 p (eq-eqb (versionOf p) 4 v) known) ∙ e
 
   not4 : versionOf p ≡ 6 → four p ≡ false
   not4 v = ne-eqb (versionOf p) 4 (λ e. omega arith)
 
-  protocol-at6 : {n : ℕ} → versionOf p ≡ 6 → protocolOf p ≡ n → byteAt p 6 ≡ n
-  protocol-at6 v e = sym (protocol6 p (not4 v)) ∙ e
+  -- where the extension headers lead
+  at6 : versionOf p ≡ 6 → FieldsAt p (protocolOf p) (startOf p) → Fields6 p
+  at6 v a = record { k = protocolOf p; first = startOf p; leads = led known (not4 v); said = a }
+
+  declared-at6 : versionOf p ≡ 6 → declaredEnd p ≡ startOf p + upperLength p (startOf p)
+  declared-at6 v = let k = known in let s = k .outer .six (not4 v) in omega (arith, declared6 p (not4 v))
 
   -- a line that covers nothing is none of a packet whose shape nothing refuses
   uncovered-not : rowIn p ≡ Uncovered → ⊥
@@ -85,9 +90,9 @@ module _ (p : List ℕ) (s : Shaped p) where
   fields (tcp4 l) = let v = l .version in inl (v, inr (inl (protocol-at4 v (l .protocol), by-offset (ihl p) (start-at4 v) l _ (declared-at4 v) refl)))
   fields (udp4 l) = let v = l .version in inl (v, inr (inr (protocol-at4 v (l .protocol), datagrammed (ihl p) (start-at4 v) l refl)))
   fields (none4 l a b c) = absurd (uncovered-not (l .row))
-  fields (icmp6 l) = let v = l .version in inr (v, inl (protocol-at6 v (l .protocol), plainly 40 (start6 p (not4 v)) l _ (declared6 p (not4 v)) (λ e. omega arith) (λ e. omega arith)))
-  fields (tcp6 l) = let v = l .version in inr (v, inr (inl (protocol-at6 v (l .protocol), by-offset 40 (start6 p (not4 v)) l _ (declared6 p (not4 v)) refl)))
-  fields (udp6 l) = let v = l .version in inr (v, inr (inr (protocol-at6 v (l .protocol), datagrammed 40 (start6 p (not4 v)) l refl)))
+  fields (icmp6 l) = let v = l .version in inr (v, at6 v (inl (l .protocol, plainly (startOf p) refl l _ (declared-at6 v) (λ e. omega arith) (λ e. omega arith))))
+  fields (tcp6 l) = let v = l .version in inr (v, at6 v (inr (inl (l .protocol, by-offset (startOf p) refl l _ (declared-at6 v) refl))))
+  fields (udp6 l) = let v = l .version in inr (v, at6 v (inr (inr (l .protocol, datagrammed (startOf p) refl l refl))))
   fields (none6 l a b c) = absurd (uncovered-not (l .row))
 
 -- for every packet whose shape nothing refuses

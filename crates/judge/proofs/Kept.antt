@@ -5,13 +5,14 @@ use mathlib.Core.List.{List, _∷_, _++_}
 use mathlib.Core.Bool.{true, false, not, _&&_}
 use Rattle.verdicts.specs.Rules.{Rule, _⇒_, first, clear}
 use Rattle.verdicts.specs.declared.Verdict.{Verdict}
-use Rattle.verdicts.specs.declared.Verdict.the-variants.{Good, HeaderSum, Fragment}
+use Rattle.verdicts.specs.declared.Verdict.the-variants.{Good, HeaderSum}
 use Rattle.verdicts.proofs.Rules.{first-append, first-same, clear-join}
 use Rattle.verdicts.proofs.Tests.{by-cases}
-use Rattle.wire.specs.Outer.{four, fragmentOf, fragmentRule, outerRules}
+use Rattle.wire.specs.Outer.{four, outerRules}
+use Rattle.wire.specs.Walk.{walkRules}
 use Rattle.wire.specs.Inner.{messageRules, silentOf, wholeRules}
 use Rattle.wire.proofs.Facts.{Facts}
-use Rattle.wire.proofs.Same.{SameLayout, four-same, fragment-same, message-same}
+use Rattle.wire.proofs.Same.{SameLayout, four-same, walk-rules-same, message-same}
 use Rattle.wire.proofs.Held.{whole-facts}
 use Rattle.cover.specs.Sums.{headerSums, messageSums}
 use Rattle.judge.specs.Judge.{sumRules, judgeRules, judgeOf}
@@ -30,10 +31,10 @@ self v = v
 
 -- the rules between those of the outer shape and those of the message's sum
 abbrev middle : List ℕ → List Rule
-middle p = (not (headerSums p) ⇒ HeaderSum) ∷ (fragmentOf p ⇒ Fragment) ∷ messageRules p
+middle p = (not (headerSums p) ⇒ HeaderSum) ∷ (walkRules p ++ messageRules p)
 
 judge-as : (p : List ℕ) → judgeOf p ≡ first (outerRules p) self (first (middle p) self (first (sumRules p) self Good))
-unfolding judgeOf judgeRules
+unfolding judgeOf judgeRules walkRules
 judge-as p = first-append (outerRules p) _ self Good ∙ ap (first (outerRules p) self) (first-append (middle p) (sumRules p) self Good)
 
 -- what the message's verdict rests on, where nothing refuses the shape
@@ -55,6 +56,6 @@ module _ {p q : List ℕ} (s : SameLayout p q) (h : headerSums q ≡ headerSums 
   unfolding wholeRules
   judge-kept =
       judge-as q
-      ∙ rw (s .outer, h, fragment-same (s .header), message-same s)
-      (first-same (outerRules p) self _ _ (λ c. first-same (middle p) self _ _ (λ d. sum-kept (clear-join (outerRules p) (fragmentRule p ++ messageRules p) c (d .1)))))
+      ∙ rw (s .outer, h, walk-rules-same (s .header), message-same s)
+      (first-same (outerRules p) self _ _ (λ c. first-same (middle p) self _ _ (λ d. sum-kept (clear-join (outerRules p) (walkRules p ++ messageRules p) c (d .1)))))
       ∙ sym (judge-as p)

@@ -6,6 +6,7 @@ pub mod Ones
 pub mod Accepts
 pub mod Kept
 pub mod Covered
+pub mod Leads
 pub mod Rfc
 pub mod Fields
 pub mod Tail

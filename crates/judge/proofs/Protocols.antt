@@ -8,9 +8,9 @@ use mathlib.Core.Bool.{Bool, true, false, not, _||_}
 use lib.Dec.{eqb}
 use borrow.Author.Tests.{eqb-true, eqb-false, eq-eqb, ne-eqb, not-false}
 use Rattle.verdicts.proofs.Tests.{by-cases}
-use Rattle.wire.specs.Outer.{four, six, versionOf, familyOf, protocolOf}
+use Rattle.wire.specs.Outer.{four, six, versionOf, familyOf}
 use Rattle.wire.specs.Table.{rowOf, uncovered}
-use Rattle.wire.specs.Inner.{rowIn}
+use Rattle.wire.specs.Inner.{protocolOf, rowIn}
 use Rattle.wire.specs.declared.Row.{Row}
 use Rattle.wire.specs.declared.Row.the-variants.{Uncovered, Covered}
 use Rattle.judge.specs.Cases.{Listed}

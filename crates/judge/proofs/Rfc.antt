@@ -1,5 +1,5 @@
 -- Good and unsummed are what the RFCs say, for packets of bytes.
-use mathlib.Core.Path.{_≡_, sym, ap, _∙_}
+use mathlib.Core.Path.{_≡_, refl, sym, ap, _∙_}
 use mathlib.Core.Logic.{_↔_, _⊎_, _≢_, inl, inr, ⊎-elim}
 use Prim.Native.Nat.{ℕ, _+_, _-_, _≤_}
 use native.Mathlib.Omega.{arith}
@@ -10,20 +10,21 @@ use borrow.Author.Tests.{eqb-true, eqb-false, eq-eqb, ne-eqb}
 use Rattle.verdicts.specs.declared.Verdict.the-variants.{Good, Unsummed}
 use Rattle.verdicts.proofs.Tests.{by-cases, and-true}
 use Rattle.wire.specs.Bytes.{byteAt, wordAt, Bytes}
-use Rattle.wire.specs.Outer.{four, familyOf, versionOf, protocolOf, outerRules}
+use Rattle.wire.specs.Outer.{four, familyOf, versionOf, outerRules}
 use Rattle.wire.specs.Table.{planOf, rowOf}
 use Rattle.wire.specs.Messages.{shapeRules}
-use Rattle.wire.specs.Inner.{startOf, lengthOf, pseudo, fieldAt, silentOf, udp, rowIn, messageRules, coveredOf}
+use Rattle.wire.specs.Inner.{protocolOf, startOf, lengthOf, pseudo, fieldAt, silentOf, udp, rowIn, messageRules, coveredOf}
 use Rattle.wire.specs.declared.Row.{Row}
 use Rattle.wire.proofs.Facts.{Facts, facts}
 use Rattle.wire.proofs.Same.{same-self, silent-at}
 use Rattle.cover.specs.Sums.{messageSums}
 use Rattle.judge.specs.Judge.{judgeOf}
 use Rattle.judge.specs.Cases.{Listed}
-use Rattle.judge.specs.Rfc.{Right, ihl, data4, Right4, Right6, goodByRfc, unsummedByRfc}
+use Rattle.judge.specs.Rfc.{Right, ihl, data4, Extension, upperLength, Right4, RightAt, Right6, goodByRfc, unsummedByRfc}
 use Rattle.judge.proofs.Answers.{good, unsummed, sums6}
 use Rattle.judge.proofs.Accepts.{Shaped, shaped, accepted, accepting, verdict-good, verdict-unsummed}
-use Rattle.judge.proofs.Covered.{start4, length4, protocol4, covered4, plain4, start6, length6, protocol6, covered6, rightly, header4}
+use Rattle.judge.proofs.Covered.{start4, length4, protocol4, covered4, plain4, length6, covered6, rightly, header4}
+use Rattle.judge.proofs.Leads.{led, led-one}
 use Rattle.judge.proofs.Protocols.{plan, kind, listed}
 
 -- what the judge asks of a message
@@ -80,7 +81,7 @@ module _ (p : List ℕ) (b : Bytes p) (s : Shaped p) where
   right4 : versionOf p ≡ 4 → Right4 p ↔ Tests p
   right4 v =
       let f : four p ≡ true = eq-eqb (versionOf p) 4 v in
-      let n = protocol4 p f in
+      let n = protocol4 p f known in
       choose
       (λ e. plain (data4 p) (λ h. omega arith) (plain4 p f known (icmp-plain f (n ∙ e)) (not-udp (λ h. omega arith))))
       (λ e. plain _ (λ h. omega arith) (covered4 p f known (with-pseudo (λ h. omega arith)) 6 (wordAt p 2 - ihl p) (n ∙ e) (length4 p f known (not-udp (λ h. omega arith)))))
@@ -88,17 +89,37 @@ module _ (p : List ℕ) (b : Bytes p) (s : Shaped p) where
       (covered4 p f known (with-pseudo (λ h. omega arith)) 17 (wordAt p (ihl p + 4)) (n ∙ e) (own-length (n ∙ e) ∙ ap (λ x. wordAt p (x + 4)) (start4 p f))))
       (⊎-elim (λ h. rw n at (h .1)) (λ h. absurd (omega arith)) lined)
 
-  right6 : versionOf p ≡ 6 → Right6 p ↔ Tests p
-  right6 v =
-      let f : four p ≡ false = ne-eqb (versionOf p) 4 (λ e. omega arith) in
-      let n = protocol6 p f in
-      let size : wordAt p 4 ≤ 65535 = omega (arith, b 4, b 5) in
-      choose
-      (λ e. plain _ (λ h. omega arith) (covered6 p f known (with-pseudo (λ h. omega arith)) 58 (wordAt p 4) size (n ∙ e) (length6 p f known (not-udp (λ h. omega arith)))))
-      (λ e. plain _ (λ h. omega arith) (covered6 p f known (with-pseudo (λ h. omega arith)) 6 (wordAt p 4) size (n ∙ e) (length6 p f known (not-udp (λ h. omega arith)))))
-      (λ e. summing _ 46 (n ∙ e) (ap (λ x. x + 6) (sym (start6 p f)))
-      (covered6 p f known (with-pseudo (λ h. omega arith)) 17 (wordAt p 44) (omega (arith, b 44, b 45)) (n ∙ e) (own-length (n ∙ e) ∙ ap (λ x. wordAt p (x + 4)) (start6 p f))))
-      (⊎-elim (λ h. absurd (omega arith)) (λ h. rw n at (turn (h .1))) lined)
+  module _ (v : versionOf p ≡ 6) where
+    six : four p ≡ false
+    six = ne-eqb (versionOf p) 4 (λ e. omega arith)
+
+    upper-small : upperLength p (startOf p) ≤ 65535
+    upper-small = omega (arith, b 4, b 5)
+
+    right-at : RightAt p (protocolOf p) (startOf p) ↔ Tests p
+    right-at =
+        let first = startOf p in
+        choose
+        (λ e. plain _ (λ h. omega arith) (covered6 p six known (with-pseudo (λ h. omega arith)) 58 (upperLength p first) upper-small e (length6 p six known (not-udp (λ h. omega arith)))))
+        (λ e. plain _ (λ h. omega arith) (covered6 p six known (with-pseudo (λ h. omega arith)) 6 (upperLength p first) upper-small e (length6 p six known (not-udp (λ h. omega arith)))))
+        (λ e. summing _ (first + 6) e refl
+        (covered6 p six known (with-pseudo (λ h. omega arith)) 17 (wordAt p (first + 4)) (omega (arith, b (first + 4), b (first + 4 + 1))) e (own-length e)))
+        (⊎-elim (λ h. absurd (omega arith)) (λ h. turn (h .1)) lined)
+
+    -- none of the three is an extension header
+    final : (n first : ℕ) → RightAt p n first → Extension n → ⊥
+    final n first r x =
+        ⊎-elim (λ h. ⊎-elim (λ e. omega arith) (⊎-elim (λ e. omega arith) (λ e. omega arith)) x)
+        (⊎-elim (λ h. ⊎-elim (λ e. omega arith) (⊎-elim (λ e. omega arith) (λ e. omega arith)) x)
+        (λ h. ⊎-elim (λ e. omega arith) (⊎-elim (λ e. omega arith) (λ e. omega arith)) x)) r
+
+    right6 : Right6 p ↔ Tests p
+    right6 = (
+      λ u.
+          let o = led-one known six (u .leads) (final (u .k) (u .first) (u .said)) in
+          right-at .0 (rw (o .0, o .1) (u .said)),
+      λ t. record { k = protocolOf p; first = startOf p; leads = led known six; said = right-at .1 t },
+    )
 
   -- UDP's zero over IPv4
   zero4 : four p ≡ true → udp p ≡ true → fieldAt p ≡ ihl p + 6
@@ -108,9 +129,9 @@ module _ (p : List ℕ) (b : Bytes p) (s : Shaped p) where
   silent4 f = (
     λ h.
         let q = and-true (udp p) (eqb (wordAt p (fieldAt p)) 0) (sym (silent-at (same-self p) known) ∙ h) in
-        (sym (protocol4 p f) ∙ eqb-true (protocolOf p) 17 (q .0), ap (wordAt p) (sym (zero4 f (q .0))) ∙ eqb-true (wordAt p (fieldAt p)) 0 (q .1)),
+        (sym (protocol4 p f known) ∙ eqb-true (protocolOf p) 17 (q .0), ap (wordAt p) (sym (zero4 f (q .0))) ∙ eqb-true (wordAt p (fieldAt p)) 0 (q .1)),
     λ h.
-        let u : udp p ≡ true = eq-eqb (protocolOf p) 17 (protocol4 p f ∙ h .0) in
+        let u : udp p ≡ true = eq-eqb (protocolOf p) 17 (protocol4 p f known ∙ h .0) in
         silent-at (same-self p) known ∙ simp (u, zero4 f u) (eq-eqb (wordAt p (ihl p + 6)) 0 (h .1)),
   )
 

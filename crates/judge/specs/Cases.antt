@@ -8,8 +8,10 @@ use Rattle.verdicts.specs.Rules.{Case, _leads_}
 use Rattle.verdicts.specs.declared.Verdict.the-variants.{Unsummed, Cut, Version, Shape, HeaderSum, Fragment, Uncovered, Missing, MessageSum}
 use Rattle.sums.specs.Total.{total}
 use Rattle.wire.specs.Bytes.{byteAt, wordAt}
-use Rattle.wire.specs.Outer.{versionOf, header4Of, declaredEnd, protocolOf}
-use Rattle.wire.specs.Inner.{startOf, headerBytes, coveredOf}
+use Rattle.wire.specs.Outer.{versionOf, header4Of, declaredEnd}
+use Rattle.wire.specs.Walk.{refused}
+use Rattle.wire.specs.Chain.{WalksTo}
+use Rattle.wire.specs.Inner.{protocolOf, startOf, headerBytes, coveredOf}
 
 -- a block passes: its total is a positive multiple of 65535
 abbrev pub Pass : List ℕ → Type 0
@@ -34,8 +36,16 @@ outerCases p =
 abbrev pub headerSumCase : List ℕ → List Case
 headerSumCase p = (((versionOf p ≡ 4) × (¬ Pass (headerBytes p))) leads HeaderSum) ∷ []
 
-abbrev pub fragmentCase : List ℕ → List Case
-fragmentCase p = (((versionOf p ≡ 4) × ((wordAt p 6 / 8192 % 2 ≡ 1) ⊎ (wordAt p 6 % 8192 ≢ 0))) leads Fragment) ∷ []
+-- on the way to the message: a fragment, in IPv4 by flag or offset and in IPv6 by a header of its own; over IPv6 a header that is late, the
+-- ninth or has segments left; one past the payload
+abbrev pub walkCases : List ℕ → List Case
+walkCases p =
+    let v = versionOf p in
+    let w = wordAt p 6 in
+    ((((v ≡ 4) × ((w / 8192 % 2 ≡ 1) ⊎ (w % 8192 ≢ 0))) ⊎ ((v ≡ 6) × WalksTo p (refused Fragment))) leads Fragment)
+    ∷ (((v ≡ 6) × WalksTo p (refused Uncovered)) leads Uncovered)
+    ∷ (((v ≡ 6) × WalksTo p (refused Shape)) leads Shape)
+    ∷ []
 
 -- protocol; message shorter than its fixed header; TCP's data offset under 5 words or past the message, UDP's length under 8 or past it
 abbrev pub messageCases : List ℕ → List Case
@@ -61,8 +71,8 @@ messageSumCase p = ((¬ Pass (coveredOf p)) leads MessageSum) ∷ []
 
 abbrev pub judgeCases : List ℕ → List Case
 judgeCases p =
-    outerCases p ++ (headerSumCase p ++ (fragmentCase p ++ (messageCases p ++ (missingCase p ++ (unsummedCase p ++ messageSumCase p)))))
+    outerCases p ++ (headerSumCase p ++ (walkCases p ++ (messageCases p ++ (missingCase p ++ (unsummedCase p ++ messageSumCase p)))))
 
 -- the same but for the sums: the mender's
 abbrev pub wholeCases : List ℕ → List Case
-wholeCases p = outerCases p ++ (fragmentCase p ++ messageCases p)
+wholeCases p = outerCases p ++ (walkCases p ++ messageCases p)

@@ -5,7 +5,8 @@ use mathlib.Core.Bool.{not, _&&_}
 use Rattle.verdicts.specs.Rules.{Rule, _⇒_, verdictBy}
 use Rattle.verdicts.specs.declared.Verdict.{Verdict}
 use Rattle.verdicts.specs.declared.Verdict.the-variants.{Unsummed, HeaderSum, Missing, MessageSum}
-use Rattle.wire.specs.Outer.{four, outerRules, fragmentRule}
+use Rattle.wire.specs.Outer.{four, outerRules}
+use Rattle.wire.specs.Walk.{walkRules}
 use Rattle.wire.specs.Inner.{silentOf, messageRules}
 use Rattle.cover.specs.Sums.{headerSums, messageSums}
 
@@ -26,7 +27,7 @@ unfoldable pub sumRules : List ℕ → List Rule
 sumRules p = missingRule p ++ (unsummedRule p ++ messageSumRule p)
 
 unfoldable pub judgeRules : List ℕ → List Rule
-judgeRules p = outerRules p ++ (headerSumRule p ++ (fragmentRule p ++ (messageRules p ++ sumRules p)))
+judgeRules p = outerRules p ++ (headerSumRule p ++ (walkRules p ++ (messageRules p ++ sumRules p)))
 
 unfoldable pub judgeOf : List ℕ → Verdict
 judgeOf p = verdictBy (judgeRules p)

@@ -32,9 +32,29 @@ ihl p = byteAt p 0 % 16 * 4
 abbrev pub data4 : List ℕ → List ℕ
 data4 p = part p (ihl p) (wordAt p 2 - ihl p)
 
--- RFC 8200: the payload begins at 40, and its length stands in bytes 4 and 5
-abbrev pub data6 : List ℕ → List ℕ
-data6 p = part p 40 (wordAt p 4)
+-- RFC 8200, 4: the extension headers that may stand between: hop-by-hop options, routing, destination options
+abbrev pub Extension : ℕ → Type 0
+Extension n = (n ≡ 0) ⊎ (n ≡ 43) ⊎ (n ≡ 60)
+
+-- byte 0 of each says what comes next, byte 1 its length in units of 8 octets, not counting the first 8: so from a place where n comes
+-- next they lead to one where k does
+pub data Leads (p : List ℕ) : (n at k first : ℕ) → Type 0 where
+  there : {n at : ℕ} → Leads p n at n at
+  over : {n at k first : ℕ} → Extension n → Leads p (byteAt p at) (at + (byteAt p (at + 1) + 1) * 8) k first → Leads p n at k first
+
+-- behind the fixed header and those the upper-layer header of protocol k begins at `first`, and so much is said of it
+pub record Upper (p : List ℕ) (Said : ℕ → ℕ → Type 0) : Type 0 where
+  pub k : ℕ
+  pub first : ℕ
+  pub leads : Leads p (byteAt p 6) 40 k first
+  pub said : Said k first
+
+-- 8.1: the payload's length, from bytes 4 and 5, less that of the extension headers
+abbrev pub upperLength : List ℕ → ℕ → ℕ
+upperLength p first = wordAt p 4 - (first - 40)
+
+abbrev pub data6 : List ℕ → ℕ → List ℕ
+data6 p first = part p first (upperLength p first)
 
 -- RFC 768: the length in octets of this user datagram, its header included, stands in its bytes 4 and 5
 abbrev pub datagramLength : List ℕ → ℕ → ℕ
@@ -47,7 +67,7 @@ datagram p first = part p first (datagramLength p first)
 abbrev pub pseudo4 : List ℕ → ℕ → ℕ → List ℕ
 pseudo4 p protocol size = part p 12 4 ++ (part p 16 4 ++ (0 ∷ protocol ∷ size / 256 ∷ size % 256 ∷ []))
 
--- RFC 8200, 8.1: source, destination, upper-layer packet length in 32 bits, three zero bytes, next header
+-- RFC 8200, 8.1: source, destination, upper-layer packet length in 32 bits, three zero bytes, the upper layer's protocol
 abbrev pub pseudo6 : List ℕ → ℕ → ℕ → List ℕ
 pseudo6 p next size =
     part p 8 16 ++ (part p 24 16 ++ (size / 16777216 ∷ size / 65536 % 256 ∷ size / 256 % 256 ∷ size % 256 ∷ 0 ∷ 0 ∷ 0 ∷ next ∷ []))
@@ -63,12 +83,15 @@ Right4 p =
     ⊎ ((byteAt p 9 ≡ 6) × Right (pseudo4 p 6 (wordAt p 2 - ihl p) ++ data4 p))
     ⊎ ((byteAt p 9 ≡ 17) × (wordAt p (ihl p + 6) ≢ 0) × Right (pseudo4 p 17 (datagramLength p (ihl p)) ++ datagram p (ihl p)))
 
--- the same over IPv6; RFC 4443: ICMPv6's message
+-- the same over IPv6, where the pseudo-header has the upper layer's protocol and length; RFC 4443: ICMPv6's message
+abbrev pub RightAt : List ℕ → ℕ → ℕ → Type 0
+RightAt p k first =
+    ((k ≡ 58) × Right (pseudo6 p 58 (upperLength p first) ++ data6 p first))
+    ⊎ ((k ≡ 6) × Right (pseudo6 p 6 (upperLength p first) ++ data6 p first))
+    ⊎ ((k ≡ 17) × (wordAt p (first + 6) ≢ 0) × Right (pseudo6 p 17 (datagramLength p first) ++ datagram p first))
+
 abbrev pub Right6 : List ℕ → Type 0
-Right6 p =
-    ((byteAt p 6 ≡ 58) × Right (pseudo6 p 58 (wordAt p 4) ++ data6 p))
-    ⊎ ((byteAt p 6 ≡ 6) × Right (pseudo6 p 6 (wordAt p 4) ++ data6 p))
-    ⊎ ((byteAt p 6 ≡ 17) × (wordAt p 46 ≢ 0) × Right (pseudo6 p 17 (datagramLength p 40) ++ datagram p 40))
+Right6 p = Upper p (RightAt p)
 
 -- nothing refuses the packet's shape, and all its sums are right
 abbrev pub goodByRfc : List ℕ → Type 0
@@ -98,12 +121,15 @@ Fields4 p =
     ⊎ ((byteAt p 9 ≡ 6) × Stands p (ihl p) 16 (tcpHeader p (ihl p)) size true)
     ⊎ ((byteAt p 9 ≡ 17) × Stands p (ihl p) 6 8 (datagramLength p (ihl p)) true)
 
--- RFC 4443: ICMPv6's at 2, in a header of 4; it and TCP's segment have the payload's length
+-- RFC 4443: ICMPv6's at 2, in a header of 4; it and TCP's segment have the upper layer's length
+abbrev pub FieldsAt : List ℕ → ℕ → ℕ → Type 0
+FieldsAt p k first =
+    ((k ≡ 58) × Stands p first 2 4 (upperLength p first) true)
+    ⊎ ((k ≡ 6) × Stands p first 16 (tcpHeader p first) (upperLength p first) true)
+    ⊎ ((k ≡ 17) × Stands p first 6 8 (datagramLength p first) true)
+
 abbrev pub Fields6 : List ℕ → Type 0
-Fields6 p =
-    ((byteAt p 6 ≡ 58) × Stands p 40 2 4 (wordAt p 4) true)
-    ⊎ ((byteAt p 6 ≡ 6) × Stands p 40 16 (tcpHeader p 40) (wordAt p 4) true)
-    ⊎ ((byteAt p 6 ≡ 17) × Stands p 40 6 8 (datagramLength p 40) true)
+Fields6 p = Upper p (FieldsAt p)
 
 -- RFC 791: the header's own at 10
 abbrev pub fieldsByRfc : List ℕ → Type 0

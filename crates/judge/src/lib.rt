@@ -7,6 +7,7 @@ use wire::Frame;
 use wire::Header;
 use wire::Message;
 use wire::Part;
+use wire::Walked;
 ghost use mathlib.Core.Path.{_≡_};
 ghost use Rattle.verdicts.specs.Numbers.{numberOf};
 ghost use Rattle.wire.specs.Outer.{outerOf};
@@ -33,13 +34,16 @@ pub fn judge(packet: &[u8]) -> Verdict
             if !header_sums(packet, h) {
                 return Verdict::HeaderSum;
             }
-            if h.fragment {
-                return Verdict::Fragment;
-            }
-            let part = wire::inner(packet, h);
-            match part {
-                Part::Refused(v) => v,
-                Part::Whole(m) => judge_message(packet, m),
+            let walked = wire::walk(packet, h);
+            match walked {
+                Walked::Refused(v) => v,
+                Walked::Reached(c) => {
+                    let part = wire::inner(packet, c);
+                    match part {
+                        Part::Refused(v) => v,
+                        Part::Whole(m) => judge_message(packet, m),
+                    }
+                }
             }
         }
     }

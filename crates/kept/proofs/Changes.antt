@@ -12,8 +12,8 @@ use Rattle.verdicts.specs.Rules.{clear}
 use Rattle.verdicts.proofs.Tests.{by-cases, or-false}
 use Rattle.sums.specs.Total.{weigh, total}
 use Rattle.wire.specs.Bytes.{part, put, putWord, Bytes}
-use Rattle.wire.specs.Outer.{addressesAt, four, headerField, protocolOf}
-use Rattle.wire.specs.Inner.{bodyOf, endOf, fieldAt, lengthOf, pseudo, silentOf, startOf}
+use Rattle.wire.specs.Outer.{addressesAt, four, headerField}
+use Rattle.wire.specs.Inner.{protocolOf, bodyOf, endOf, fieldAt, lengthOf, pseudo, silentOf, startOf}
 use Rattle.wire.proofs.Facts.{Facts}
 use Rattle.wire.proofs.Writes.{bytes-wrote, put-wrote, word-above, word-below}
 use Rattle.wire.proofs.Same.{Same, same-self, same-step, soft-header, soft-message}

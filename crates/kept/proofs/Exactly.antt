@@ -16,8 +16,8 @@ use Rattle.verdicts.proofs.Rules.{clear-both}
 use Rattle.verdicts.proofs.Calls.{call-answers}
 use Rattle.verdicts.proofs.Telling.{Tells, eqb-tells, ltb-tells, not-tells, and-tells, or-tells, as-tells, Told, next, told-append, told-exactly}
 use Rattle.wire.specs.Bytes.{byteAt, part, put, putWord}
-use Rattle.wire.specs.Outer.{four, versionOf, lifetimeAt, addressSize, protocolOf, outerRules}
-use Rattle.wire.specs.Inner.{startOf, endOf, lengthOf, fieldAt, bodyOf, wholeRules}
+use Rattle.wire.specs.Outer.{four, versionOf, lifetimeAt, addressSize, outerRules}
+use Rattle.wire.specs.Inner.{protocolOf, startOf, endOf, lengthOf, fieldAt, bodyOf, wholeRules}
 use Rattle.wire.proofs.Parts.{part-length, part-byte}
 use Rattle.wire.proofs.Facts.{OuterFacts, Facts, outer-facts}
 use Rattle.wire.proofs.Writes.{put-wrote, unwritten}

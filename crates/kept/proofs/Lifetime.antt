@@ -14,7 +14,8 @@ use Rattle.verdicts.proofs.Tests.{by-cases}
 use Rattle.verdicts.proofs.Rules.{clear-both, clear-join, past}
 use Rattle.verdicts.proofs.Calls.{call-answers}
 use Rattle.wire.specs.Bytes.{byteAt, put, putWord}
-use Rattle.wire.specs.Outer.{four, declaredEnd, headerField, lifetimeAt, outerRules, fragmentRule}
+use Rattle.wire.specs.Outer.{four, declaredEnd, headerField, lifetimeAt, outerRules}
+use Rattle.wire.specs.Walk.{walkRules}
 use Rattle.wire.specs.Inner.{messageRules}
 use Rattle.wire.proofs.Facts.{outer-facts}
 use Rattle.wire.proofs.Writes.{put-wrote}
@@ -40,7 +41,7 @@ lifetime-by-header p q l e =
 pub lifetime-passes : (p : List ℕ) → (numberOf (judgeOf p) < 2) ⊎ (4 < numberOf (judgeOf p)) → 2 ≤ byteAt p (lifetimeAt p) → apply lifetime p .0 ≡ Good
 unfolding judgeOf judgeRules outerRules
 lifetime-passes p n l =
-    let c = past (λ v. (2 ≤ numberOf v) × (numberOf v ≤ 4)) (outerRules p) (headerSumRule p ++ (fragmentRule p ++ (messageRules p ++ sumRules p))) (judgeOf p)
+    let c = past (λ v. (2 ≤ numberOf v) × (numberOf v ≤ 4)) (outerRules p) (headerSumRule p ++ (walkRules p ++ (messageRules p ++ sumRules p))) (judgeOf p)
     (λ h. ⊎-elim (λ x. omega arith) (λ x. omega arith) n) (omega arith) refl .0 in
     ap (λ (x : Verdict × List ℕ). x .0)
     (accepted-done lifetime p (clear-join (outerRules p) (lifetimeRules p) c (le-ltb (byteAt p (lifetimeAt p)) 2 l, tt)))

@@ -15,6 +15,7 @@ use Rattle.verdicts.proofs.Rules.{clear-both}
 use Rattle.verdicts.proofs.Calls.{Refusals, call-refused, call-clear, call-done, call-either}
 use Rattle.wire.specs.Bytes.{byteAt, Bytes}
 use Rattle.wire.specs.Outer.{four, outerRules}
+use Rattle.wire.specs.Walk.{walkRules}
 use Rattle.wire.specs.Messages.{shapeRules}
 use Rattle.wire.specs.Inner.{bodyOf, endOf, messageRules, wholeRules, carries, tailAt}
 use Rattle.wire.proofs.Writes.{put-wrote}
@@ -61,7 +62,7 @@ module _ (e : Edit) (p : List ℕ) where
   edit-either P a b = rw (apply-as e p) (call-either (rulesOf e p) p (made e p) P a b)
 
 pub accepted-clear : (e : Edit) (p : List ℕ) → apply e p .0 ≡ Good → clear (rulesOf e p)
-unfolding editRules wholeRules outerRules messageRules shapeRules
+unfolding editRules wholeRules outerRules walkRules messageRules shapeRules
 accepted-clear e p g = call-clear (rulesOf e p) p (made e p) (refusals e) (ap (λ (x : Verdict × List ℕ). x .0) (sym (apply-as e p)) ∙ g)
   where
     refusals : (e : Edit) → Refusals (rulesOf e p)

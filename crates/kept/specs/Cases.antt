@@ -7,8 +7,8 @@ use lib.ListN.{length}
 use Rattle.verdicts.specs.Rules.{Case, _leads_}
 use Rattle.verdicts.specs.declared.Verdict.the-variants.{Place, Spent, Blank}
 use Rattle.wire.specs.Bytes.{byteAt, put}
-use Rattle.wire.specs.Outer.{versionOf, protocolOf}
-use Rattle.wire.specs.Inner.{startOf, endOf, fieldAt, bodyOf}
+use Rattle.wire.specs.Outer.{versionOf}
+use Rattle.wire.specs.Inner.{protocolOf, startOf, endOf, fieldAt, bodyOf}
 use Rattle.judge.specs.Cases.{outerCases, wholeCases, missingCase}
 use Rattle.kept.specs.Runs.{Edit, lifetime, address, stretch}
 

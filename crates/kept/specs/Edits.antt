@@ -10,8 +10,8 @@ use Rattle.verdicts.specs.Rules.{Rule, _⇒_, first}
 use Rattle.verdicts.specs.declared.Verdict.{Verdict}
 use Rattle.verdicts.specs.declared.Verdict.the-variants.{Good, Place, Spent, Blank}
 use Rattle.wire.specs.Bytes.{byteAt, part, put, putWord}
-use Rattle.wire.specs.Outer.{protocolOf, lifetimeAt, addressesAt, addressSize, addressesLength, outerRules}
-use Rattle.wire.specs.Inner.{startOf, endOf, lengthOf, fieldAt, bodyOf, pseudo, wholeRules}
+use Rattle.wire.specs.Outer.{lifetimeAt, addressesAt, addressSize, addressesLength, outerRules}
+use Rattle.wire.specs.Inner.{protocolOf, startOf, endOf, lengthOf, fieldAt, bodyOf, pseudo, wholeRules}
 use Rattle.judge.specs.Judge.{missingRule}
 use Rattle.kept.specs.Update.{headerAfter, messageAfter}
 

@@ -21,6 +21,7 @@ use Rattle.verdicts.proofs.Calls.{call-answers, call-refused, call-clear, call-
 use Rattle.sums.specs.Fold.{passes}
 use Rattle.wire.specs.Bytes.{byteAt, wordAt, put, putWord, Bytes}
 use Rattle.wire.specs.Outer.{four, headerField, outerRules}
+use Rattle.wire.specs.Walk.{walkRules}
 use Rattle.wire.specs.Messages.{shapeRules}
 use Rattle.wire.specs.Inner.{fieldAt, messageRules, silentOf, udp, wholeRules, carries, tailAt}
 use Rattle.wire.proofs.Facts.{OuterFacts}
@@ -85,7 +86,7 @@ module _ (p : List ℕ) where
   done c = call-done (wholeRules p) p (mendedMessage (mendedHeader p)) c
 
   mended-clear : mendOf p .0 ≡ Good → clear (wholeRules p)
-  unfolding mendOf wholeRules outerRules messageRules shapeRules
+  unfolding mendOf wholeRules outerRules walkRules messageRules shapeRules
   mended-clear g = call-clear (wholeRules p) p (mendedMessage (mendedHeader p)) (omega arith) g
 
   pub mended : clear (wholeRules p) → Mended p (mendOf p .1)

@@ -10,6 +10,7 @@ use wire::Family;
 use wire::Frame;
 use wire::Message;
 use wire::Part;
+use wire::Walked;
 ghost use mathlib.Core.Path.{_≡_};
 ghost use mathlib.Core.Bool.{true, _&&_};
 ghost use Prim.Native.Nat.{_+_, _%_, _≤_};
@@ -32,13 +33,16 @@ pub fn mend(packet: &mut [u8]) -> Verdict
     match frame {
         Frame::Refused(v) => v,
         Frame::Ip(h) => {
-            if h.fragment {
-                return Verdict::Fragment;
-            }
-            let part = wire::inner(packet, h);
-            match part {
-                Part::Refused(v) => v,
-                Part::Whole(m) => mend_whole(packet, m),
+            let walked = wire::walk(packet, h);
+            match walked {
+                Walked::Refused(v) => v,
+                Walked::Reached(c) => {
+                    let part = wire::inner(packet, c);
+                    match part {
+                        Part::Refused(v) => v,
+                        Part::Whole(m) => mend_whole(packet, m),
+                    }
+                }
             }
         }
     }
@@ -99,7 +103,7 @@ fn fresh_header(packet: &[u8], m: Message) -> u64
     requires { ⌜ four (now packet) ≡ true ⌝ }
     ensures { λ r. ⌜ (r ≤ 65535) × (swap r ≡ freshHeader (now (packet .entry))) ⌝ }
 {
-    let end = m.header;
+    let end = m.start;
     let before = before_field(&packet[..wire::HEADER_FIELD]);
     sums::field_low(after_field(&packet[wire::ADDRESSES_4..end], before))
 }

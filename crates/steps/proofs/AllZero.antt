@@ -9,8 +9,7 @@ use lib.Dec.{eqb}
 use borrow.Author.Tests.{eq-eqb}
 use Rattle.verdicts.proofs.Tests.{by-cases}
 use Rattle.wire.specs.Bytes.{part, put, putWord}
-use Rattle.wire.specs.Outer.{protocolOf}
-use Rattle.wire.specs.Inner.{bodyOf, endOf, fieldAt, startOf}
+use Rattle.wire.specs.Inner.{protocolOf, bodyOf, endOf, fieldAt, startOf}
 use Rattle.wire.proofs.Parts.{part-cut}
 use Rattle.wire.proofs.Facts.{Facts}
 use Rattle.wire.proofs.Writes.{put-wrote, part-below, part-above, part-they}

@@ -5,23 +5,25 @@ use mathlib.Core.Bool.{true, false}
 use mathlib.Core.List.{List, _++_, append-assoc}
 use Rattle.verdicts.specs.Rules.{Rule, first}
 use Rattle.verdicts.specs.declared.Verdict.{Verdict}
-use Rattle.verdicts.specs.declared.Verdict.the-variants.{Fragment}
 use Rattle.verdicts.proofs.Rules.{first-append}
-use Rattle.wire.specs.Outer.{familyOf, four, fragmentOf, fragmentRule, outerOf, outerRules, protocolOf}
-use Rattle.wire.specs.Inner.{Holds, bodyOf, endOf, fieldAt, innerOf, messageRules, startOf, wholeRules}
+use Rattle.wire.specs.Outer.{familyOf, four, outerOf, outerRules}
+use Rattle.wire.specs.Walk.{walkRules}
+use Rattle.wire.specs.Inner.{Holds, bodyOf, endOf, fieldAt, innerOf, messageRules, protocolOf, startOf, wayOf, wholeRules}
 use Rattle.wire.specs.declared.Family.the-variants.{Four, Six}
 use Rattle.wire.specs.declared.Header.{Header}
 use Rattle.wire.specs.declared.Frame.the-variants as frame
+use Rattle.wire.specs.declared.Carried.{Carried}
+use Rattle.wire.specs.declared.Walked.the-variants as way
 use Rattle.wire.specs.declared.Message.{Message}
 use Rattle.wire.specs.declared.Part.the-variants as part
 use Rattle.wire.proofs.Facts.{Facts}
-use Rattle.wire.proofs.Held.{after-outer, after-inner, headed, held-facts, is-four, is-six}
+use Rattle.wire.proofs.Held.{after-outer, after-walk, after-inner, held-facts, is-four, is-six}
 use Rattle.judge.specs.Judge.{missingRule}
 use Rattle.kept.specs.Edits.{editRules}
 
 module _ {A : Type 0} (p : List ℕ) (rest : List Rule) (refuse : Verdict → A) (go : A) where
   -- the rules in the order in which the code meets them
-  in-order : first (editRules p ++ rest) refuse go ≡ first (outerRules p ++ (fragmentRule p ++ (messageRules p ++ (missingRule p ++ rest)))) refuse go
+  in-order : first (editRules p ++ rest) refuse go ≡ first (outerRules p ++ (walkRules p ++ (messageRules p ++ (missingRule p ++ rest)))) refuse go
   unfolding editRules wholeRules
   in-order = simp append-assoc
 
@@ -29,18 +31,15 @@ module _ {A : Type 0} (p : List ℕ) (rest : List Rule) (refuse : Verdict → A)
   refused-outer v e = sym (in-order ∙ simp (after-outer, sym e))
 
   module _ (h : Header) (e : frame.Ip h ≡ outerOf p) where
-    split : h .fragment ≡ fragmentOf p
-    split = ap (λ (k : Header). k .fragment) (headed p h e .is)
+    pub refused-walk : (v : Verdict) → way.Refused v ≡ wayOf p → refuse v ≡ first (editRules p ++ rest) refuse go
+    refused-walk v w = sym (in-order ∙ simp (after-outer, sym e, after-walk, sym w))
 
-    pub refused-fragment : h .fragment ≡ true → refuse Fragment ≡ first (editRules p ++ rest) refuse go
-    refused-fragment f = sym (in-order ∙ simp (after-outer, sym e, sym split ∙ f))
-
-    module _ (f : h .fragment ≡ false) where
+    module _ (c : Carried) (w : way.Reached c ≡ wayOf p) where
       pub refused-inner : (v : Verdict) → part.Refused v ≡ innerOf p → refuse v ≡ first (editRules p ++ rest) refuse go
-      refused-inner v i = sym (in-order ∙ simp (after-outer, sym e, sym split ∙ f, after-inner, sym i))
+      refused-inner v i = sym (in-order ∙ simp (after-outer, sym e, after-walk, sym w, after-inner, sym i))
 
       pub handed-on : (m : Message) → part.Whole m ≡ innerOf p → first (missingRule p) refuse (first rest refuse go) ≡ first (editRules p ++ rest) refuse go
-      handed-on m i = sym (in-order ∙ simp (after-outer, sym e, sym split ∙ f, after-inner, sym i) (first-append (missingRule p) rest refuse go))
+      handed-on m i = sym (in-order ∙ simp (after-outer, sym e, after-walk, sym w, after-inner, sym i) (first-append (missingRule p) rest refuse go))
 
 -- ---- the places of a message at hand, as omega reads them, and its family
 pub record Known (p : List ℕ) (m : Message) : Type 0 where

@@ -6,8 +6,7 @@ ghost use Prim.Native.Nat.{_+_, _≤_};
 ghost use lib.Dec.{eqb};
 ghost use lib.ListN.{length};
 ghost use Rattle.wire.specs.Bytes.{put};
-ghost use Rattle.wire.specs.Outer.{protocolOf};
-ghost use Rattle.wire.specs.Inner.{endOf, bodyOf, Holds};
+ghost use Rattle.wire.specs.Inner.{protocolOf, endOf, bodyOf, Holds};
 ghost use Rattle.kept.specs.Edits.{allZero, blank};
 
 // Whether ICMP is blank before new bytes are written from a place on, or would be after it: all else is zeros, and so

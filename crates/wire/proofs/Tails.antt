@@ -14,7 +14,7 @@ use Rattle.wire.specs.Outer.{four, leastOf, headerEnd, declaredEnd, oute
 use Rattle.wire.specs.Inner.{endOf, carries, tailAt, UpToTail}
 use Rattle.wire.proofs.Facts.{OuterFacts, Facts, outer-facts, carried-length}
 use Rattle.wire.proofs.Writes.{Agree}
-use Rattle.wire.proofs.Same.{SameHeader, MessageReads, SameLayout, declared-same, start-same, end-same}
+use Rattle.wire.proofs.Same.{walkedOf, walked-within, walked-start, SameHeader, MessageReads, SameLayout, declared-same, start-same, end-same}
 use Rattle.wire.proofs.Held.{carries-clear, carries-same, whole-facts}
 
 -- ---- where it begins
@@ -37,6 +37,14 @@ tail-order {p} k =
     (λ t. let m = carries-facts p t in simp t (omega arith))
     (λ t. simp t (omega arith))
 
+-- the walk reads nothing of it
+walked-order : {p : List ℕ} → OuterFacts p → walkedOf p ≤ tailAt p
+unfolding tailAt
+walked-order {p} k =
+    by-cases (carries p)
+    (λ t. let m = carries-facts p t in simp t (omega (arith, walked-start m)))
+    (λ t. simp t (walked-within k))
+
 -- ---- packets that agree up to it
 module _ {p q : List ℕ} (a : UpToTail p q) where
   known : OuterFacts p
@@ -46,7 +54,7 @@ module _ {p q : List ℕ} (a : UpToTail p q) where
   header =
       let k = known in
       let o = tail-order k in
-      record { reads = λ i r. a .same i (⊎-elim (λ h. omega arith) (λ h. ⊎-elim (λ e. omega arith) (λ e. omega arith) (h .1)) r) }
+      record { reads = λ i r. a .same i (⊎-elim (λ h. omega arith) (⊎-elim (λ h. ⊎-elim (λ e. omega arith) (λ e. omega arith) (h .1)) (λ h. omega (arith, walked-order k))) r) }
 
   early : (i : ℕ) → i < 7 → byteAt q i ≡ byteAt p i
   early i h = let k = known in let o = tail-order k in a .same i (omega arith)

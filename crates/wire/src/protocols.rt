@@ -1,19 +1,15 @@
-// The shape of a message, protocol by protocol, by the line of the table that its header leads to.
-use crate::Frame;
-use crate::Header;
+// The shape of a message, protocol by protocol, by the line of the table that the walk leads to.
+use crate::Carried;
 use crate::Message;
 use crate::Part;
 use crate::Plan;
-use crate::Row;
 use crate::bits::high;
 use crate::bits::wide;
 use crate::bits::word;
 use verdicts::Verdict;
 ghost use mathlib.Core.Path.{_≡_};
 ghost use Prim.Native.Nat.{_+_, _≤_};
-ghost use Rattle.wire.specs.Outer.{outerOf};
-ghost use Rattle.wire.specs.Table.{rowOf};
-ghost use Rattle.wire.specs.Inner.{innerOf};
+ghost use Rattle.wire.specs.Inner.{innerOf, Carrying};
 
 // Where lengths stand in a message.
 const DATA_OFFSET: usize = 12;
@@ -21,25 +17,24 @@ const DATA_OFFSET: usize = 12;
 const UDP_LENGTH: usize = 4;
 
 // ICMP and ICMPv6 say no length of their own: the packet is asked for by the contract alone.
-pub fn icmp(packet: &[u8], h: Header, plan: Plan) -> Part
-    requires { ⌜ (Frame.Ip h ≡ outerOf (now packet)) × (rowOf (h .family) (h .protocol) ≡ Row.Covered plan) ⌝ }
-    requires { ⌜ (h .protocol ≡ 6 → ⊥) × (h .protocol ≡ 17 → ⊥) ⌝ }
+pub fn icmp(packet: &[u8], c: Carried, protocol: u8, plan: Plan) -> Part
+    requires { ⌜ Carrying (now packet) c protocol plan ⌝ }
+    requires { ⌜ (protocol ≡ 6 → ⊥) × (protocol ≡ 17 → ⊥) ⌝ }
     ensures { λ r. ⌜ r ≡ innerOf (now (packet .entry)) ⌝ }
 {
-    if h.declared - h.end < plan.fixed {
+    if c.declared - c.start < plan.fixed {
         return Part::Refused(Verdict::Shape);
     }
-    placed(h, plan, plan.fixed, h.declared)
+    placed(c, protocol, plan, plan.fixed, c.declared)
 }
 
 // TCP's data offset says where the body begins, behind the fixed header and inside the message.
-pub fn tcp(packet: &[u8], h: Header, plan: Plan) -> Part
-    requires { ⌜ (Frame.Ip h ≡ outerOf (now packet)) × (rowOf (h .family) (h .protocol) ≡ Row.Covered plan) ⌝ }
-    requires { ⌜ h .protocol ≡ 6 ⌝ }
+pub fn tcp(packet: &[u8], c: Carried, plan: Plan) -> Part
+    requires { ⌜ Carrying (now packet) c 6 plan ⌝ }
     ensures { λ r. ⌜ r ≡ innerOf (now (packet .entry)) ⌝ }
 {
-    let start = h.end;
-    let length = h.declared - start;
+    let start = c.start;
+    let length = c.declared - start;
     if length < plan.fixed {
         return Part::Refused(Verdict::Shape);
     }
@@ -50,17 +45,16 @@ pub fn tcp(packet: &[u8], h: Header, plan: Plan) -> Part
     if length < body {
         return Part::Refused(Verdict::Shape);
     }
-    placed(h, plan, body, h.declared)
+    placed(c, crate::TCP, plan, body, c.declared)
 }
 
 // UDP's length says where the datagram ends, behind the fixed header and inside what is carried.
-pub fn udp(packet: &[u8], h: Header, plan: Plan) -> Part
-    requires { ⌜ (Frame.Ip h ≡ outerOf (now packet)) × (rowOf (h .family) (h .protocol) ≡ Row.Covered plan) ⌝ }
-    requires { ⌜ h .protocol ≡ 17 ⌝ }
+pub fn udp(packet: &[u8], c: Carried, plan: Plan) -> Part
+    requires { ⌜ Carrying (now packet) c 17 plan ⌝ }
     ensures { λ r. ⌜ r ≡ innerOf (now (packet .entry)) ⌝ }
 {
-    let start = h.end;
-    let length = h.declared - start;
+    let start = c.start;
+    let length = c.declared - start;
     if length < plan.fixed {
         return Part::Refused(Verdict::Shape);
     }
@@ -74,23 +68,22 @@ pub fn udp(packet: &[u8], h: Header, plan: Plan) -> Part
             return Part::Refused(Verdict::Shape);
         }
     }
-    placed(h, plan, plan.fixed, start + own)
+    placed(c, crate::UDP, plan, plan.fixed, start + own)
 }
 
 // The message that ends at a place, its body so many bytes behind its start.
-fn placed(h: Header, plan: Plan, body: usize, end: usize) -> Part
-    requires { ⌜ (h .end + plan .field ≤ h .declared) × (h .end + body ≤ h .declared) ⌝ }
-    ensures { λ r. ⌜ r ≡ Part.Whole (record { family = h .family; header = h .end; start = h .end; end = end; protocol = h .protocol; field = h .end + plan .field; body = h .end + body; pseudo = plan .pseudo }) ⌝ }
+fn placed(c: Carried, protocol: u8, plan: Plan, body: usize, end: usize) -> Part
+    requires { ⌜ (c .start + plan .field ≤ c .declared) × (c .start + body ≤ c .declared) ⌝ }
+    ensures { λ r. ⌜ r ≡ Part.Whole (record { family = c .family; start = c .start; end = end; protocol = protocol; field = c .start + plan .field; body = c .start + body; pseudo = plan .pseudo }) ⌝ }
 {
-    let family = h.family;
+    let family = c.family;
     Part::Whole(Message {
         family,
-        header: h.end,
-        start: h.end,
-        end,
-        protocol: h.protocol,
-        field: h.end + plan.field,
-        body: h.end + body,
+        protocol,
         pseudo: plan.pseudo,
+        start: c.start,
+        end,
+        field: c.start + plan.field,
+        body: c.start + body,
     })
 }

@@ -10,8 +10,8 @@ use denote.Ref.{now}
 use Rattle.sums.specs.Total.{weigh}
 use Rattle.sums.proofs.Rests.{more-end}
 use Rattle.wire.specs.Bytes.{part}
-use Rattle.wire.specs.Outer.{four, familyOf, protocolOf}
-use Rattle.wire.specs.Inner.{startOf, endOf, pseudo}
+use Rattle.wire.specs.Outer.{four, familyOf}
+use Rattle.wire.specs.Inner.{protocolOf, startOf, endOf, pseudo}
 use Rattle.wire.specs.declared.Message.{Message}
 use Rattle.wire.proofs.Parts.{part-length}
 use Rattle.wire.proofs.Facts.{Facts}

@@ -11,6 +11,7 @@ use Rattle.wire.specs.Bytes.{part, putWord}
 use Rattle.wire.specs.Outer.{headerEnd, headerField}
 use Rattle.wire.specs.declared.Message.{Message}
 use Rattle.wire.proofs.Parts.{part-length}
+use Rattle.wire.proofs.Facts.{start-four}
 use Rattle.wire.proofs.Held.{held-facts}
 use Rattle.mend.proofs.Without.{without-low, header-without}
 use borrow.Author.Needs.{needs}
@@ -20,8 +21,8 @@ use Rattle.mend.proofs.fresh_header.Tie as tie
 abbrev P : tie.Start → List ℕ
 P c = now (c .args .packet)
 
-end : (c : tie.Start) → c .args .m .header ≡ headerEnd (P c)
-end c = ap (λ (m : Message). m .header) (c .pre .0 .is)
+end : (c : tie.Start) → c .args .m .start ≡ headerEnd (P c)
+end c = ap (λ (m : Message). m .start) (c .pre .0 .is) ∙ start-four (P c) (c .pre .1)
 
 -- an IPv4 header is a number of 4-byte words
 words : (c : tie.Start) → headerEnd (P c) % 4 ≡ 0
@@ -34,7 +35,7 @@ after-field-requires c κs =
     let f = held-facts (b .pre .0) in
     let e = end b in
     let w = words b in
-    let l = part-length (P b) 12 (b .args .m .header - 12) (omega arith) in
+    let l = part-length (P b) 12 (b .args .m .start - 12) (omega arith) in
     (omega arith, omega arith)
 
 returns : tie.Need-returns
@@ -46,7 +47,7 @@ returns c =
     let r = c .field-low .ensures in (
       omega (arith, r .0),
       header-without (P b) f _ _
-          (without-low (P b) 0 headerField (b .args .m .header) (omega arith) (omega arith) (omega arith) (omega arith) _ _
+          (without-low (P b) 0 headerField (b .args .m .start) (omega arith) (omega arith) (omega arith) (omega arith) _ _
           (d .before .before .before-field .ensures) (d .after-field .ensures)
           ∙ ap (λ (n : ℕ). fold (256 * total (part (putWord (P b) headerField 0) 0 (n - 0)))) e) (r .0) (r .1),
     )

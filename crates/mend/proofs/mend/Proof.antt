@@ -1,14 +1,16 @@
 -- A refusal, or both fields set.
-use mathlib.Core.Path.{_≡_, _∙_, sym, ap, ap₂}
+use mathlib.Core.Path.{_≡_, _∙_, sym, ap₂}
 use Prim.Native.Nat.{ℕ}
-use mathlib.Core.Bool.{false}
 use mathlib.Core.List.{List}
 use denote.Ref.{now}
 use Rattle.verdicts.specs.declared.Verdict.{Verdict}
-use Rattle.wire.specs.Outer.{outerOf, fragmentOf}
+use Rattle.wire.specs.Outer.{outerOf}
+use Rattle.wire.specs.Inner.{wayOf}
 use Rattle.wire.specs.declared.Header.{Header}
 use Rattle.wire.specs.declared.Frame.the-variants.{Ip}
-use Rattle.wire.proofs.Held.{by-whole, headed, held-inner, refused-outer, split-whole, inner-whole}
+use Rattle.wire.specs.declared.Carried.{Carried}
+use Rattle.wire.specs.declared.Walked.the-variants.{Reached}
+use Rattle.wire.proofs.Held.{by-whole, headed, held-inner, refused-outer, refused-walk, inner-whole}
 use Rattle.mend.specs.Mend.{mendOf}
 use borrow.Author.Needs.{needs}
 use Rattle.mend.proofs.mend.Statement.{statement}
@@ -23,43 +25,48 @@ H c = c .before .frame2 .given .0 .0
 ip : (c : tie.After-known-told2) → Ip (H c) ≡ outerOf (P c)
 ip c = sym (c .before .frame2 .given .1) ∙ c .before .before .before .outer .ensures
 
-fragment : (c : tie.After-known-told2) → H c .fragment ≡ fragmentOf (P c)
-fragment c = ap (λ (h : Header). h .fragment) (headed (P c) (H c) (ip c) .is)
+-- where the walk has reached a message, what `inner` answers is what the whole order does
+abbrev F : tie.After-walked2 → tie.After-known-told2
+F c = c .before .before .before .before
 
--- what `inner` answers is what the whole order does
-unsplit : (c : tie.Else1) → fragmentOf (P (c .before)) ≡ false
-unsplit c = sym (fragment (c .before)) ∙ c .if1 .left
+abbrev C : tie.After-walked2 → Carried
+C c = c .walked2 .given .0 .0
+
+carried : (c : tie.After-walked2) → Reached (C c) ≡ wayOf (P (F c))
+carried c = sym (c .walked2 .given .1) ∙ c .before .before .walk .ensures
 
 returns : tie.Need-returns
 unfolding mendOf
-returns c = let f = c .before in simp (by-whole, sym (split-whole (P f) (H f) (ip f) (sym (fragment f) ∙ c .if1 .taken)))
+returns c = simp (by-whole, sym (refused-outer _ _ (sym (c .before .frame .given .1) ∙ c .before .before .before .outer .ensures)))
 
 returns-2 : tie.Need-returns-2
 unfolding mendOf
-returns-2 c = simp (by-whole, sym (refused-outer _ _ (sym (c .before .frame .given .1) ∙ c .before .before .before .outer .ensures)))
+returns-2 c =
+    let f = c .before .before .before .before .before in
+    simp (by-whole, sym (refused-walk (P f) (H f) (ip f) _ (sym (c .before .walked .given .1) ∙ c .before .before .before .walk .ensures)))
 
 mend-whole-requires : tie.Need-mend-whole-requires
 mend-whole-requires c κs =
     let i = c .before .before .before .before in
-    held-inner _ _ _ (ip (i .before .before .before)) (sym (c .before .before .part2 .given .1) ∙ i .inner .ensures)
+    held-inner _ _ _ (ip (F (i .before .before .before))) (sym (c .before .before .part2 .given .1) ∙ i .inner .ensures)
 
 returns-3 : tie.Need-returns-3
 unfolding mendOf
 returns-3 c =
     let i = c .before .before .before in
-    let e = i .before .before in
-    let f = e .before in
-    simp (by-whole, sym (sym (c .before .part .given .1) ∙ i .inner .ensures ∙ inner-whole (P f) (H f) (ip f) (unsplit e)))
+    let w = i .before .before .before in
+    let f = F w in
+    simp (by-whole, sym (sym (c .before .part .given .1) ∙ i .inner .ensures ∙ inner-whole (P f) (H f) (ip f) (C w) (carried w)))
 
 returns-4 : tie.Need-returns-4
 unfolding mendOf
 returns-4 c =
     let m = c .before .before in
     let i = m .before .before .before .before .before in
-    let e = i .before .before in
-    let f = e .before in
+    let w = i .before .before .before in
+    let f = F w in
     ap₂ (λ (v : Verdict) (q : List ℕ). (v, q)) (m .mend-whole .ensures .0) (m .mend-whole .ensures .1)
-    ∙ sym (simp (by-whole, sym (sym (m .before .before .before .part2 .given .1) ∙ i .inner .ensures ∙ inner-whole (P f) (H f) (ip f) (unsplit e))))
+    ∙ sym (simp (by-whole, sym (sym (m .before .before .before .part2 .given .1) ∙ i .inner .ensures ∙ inner-whole (P f) (H f) (ip f) (C w) (carried w))))
 
 pub mend-spec : {M : Type 1} → statement M
 mend-spec =
@@ -68,12 +75,15 @@ mend-spec =
     (λ c κs. search needs)
     (λ c. search needs)
     (λ c. search needs)
+    (λ c κs. ip (c .before))
     (λ c. search needs)
-    returns
-    (λ c κs. ip (c .before .before))
+    (λ c. search needs)
+    (λ c κs. let w = c .before .before in let f = F w in (headed (P f) (H f) (ip f) .outer, carried w))
     (λ c. search needs)
     (λ c. search needs)
     mend-whole-requires
+    (λ c. search needs)
+    returns
     (λ c. search needs)
     returns-2
     (λ c. search needs)

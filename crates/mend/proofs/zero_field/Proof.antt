@@ -9,8 +9,7 @@ use borrow.Author.Tests.{eq-eqb, ne-eqb, eqb-true, eqb-false}
 use denote.Ref.{now}
 use Rattle.sums.specs.Fold.{fold, fieldOf, swap}
 use Rattle.wire.specs.Bytes.{putWord}
-use Rattle.wire.specs.Outer.{protocolOf}
-use Rattle.wire.specs.Inner.{fieldAt, pseudo, udp}
+use Rattle.wire.specs.Inner.{protocolOf, fieldAt, pseudo, udp}
 use Rattle.wire.specs.declared.Message.{Message}
 use Rattle.wire.proofs.Same.{same-self}
 use Rattle.wire.proofs.Held.{held-facts}

@@ -9,8 +9,7 @@ use lib.ListN.{length}
 use lib.Dec.{eqb}
 use denote.Ref.{now}
 use Rattle.wire.specs.Bytes.{part, put}
-use Rattle.wire.specs.Outer.{protocolOf}
-use Rattle.wire.specs.Inner.{endOf, fieldAt, startOf}
+use Rattle.wire.specs.Inner.{protocolOf, endOf, fieldAt, startOf}
 use Rattle.kept.specs.Edits.{allZero, blank}
 use Rattle.steps.proofs.AllZero.{blanks-made, new-decides}
 use Rattle.steps.proofs.Common.{Known, known}
