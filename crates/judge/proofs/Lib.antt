@@ -10,3 +10,4 @@ pub mod Leads
 pub mod Rfc
 pub mod Fields
 pub mod Tail
+pub mod Transparent

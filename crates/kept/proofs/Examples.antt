@@ -30,13 +30,13 @@ datagram life high low from to fh fl a b =
 -- its data edited byte by byte, the second at an odd place: the field computed 0000 is sent FFFF
 edited : run (stretch 0 (0x56 ∷ []) ∷ stretch 1 (0xB0 ∷ []) ∷ []) (datagram 0x40 0xB8 0xB6 0x01 0xC7 0x0E 0x47 0x48 0x69)
     ≡ datagram 0x40 0xB8 0xB6 0x01 0xC7 0xFF 0xFF 0x56 0xB0
-unfolding weigh fold equation3 updated put odd familyOf startOf headerEnd carriedOf endOf declaredEnd protocolOf nextOf fragmentOf between late unfinishedAt headerRules metOf walkBy walkOf walkRules outerRules rowOf saidIn fieldAt bodyOf pseudo silentOf messageRules shapeRules wholeRules sent updatedAt messageAfter editRules stretchOf
+unfolding weigh fold equation3 updated put odd familyOf startOf headerEnd carriedOf endOf declaredEnd protocolOf nextOf fragmentOf walkOf walkRules outerRules rowOf saidIn fieldAt bodyOf pseudo silentOf messageRules shapeRules wholeRules sent updatedAt messageAfter editRules stretchOf
 edited = refl
 
 -- its lifetime lowered and its addresses exchanged
 forwarded : run (lifetime ∷ address 0 (0xC0 ∷ 0xA8 ∷ 0x00 ∷ 0xC7 ∷ []) ∷ address 1 (0xC0 ∷ 0xA8 ∷ 0x00 ∷ 0x01 ∷ []) ∷ []) (datagram 0x40 0xB8 0xB6 0x01 0xC7 0x0E 0x47 0x48 0x69)
     ≡ datagram 0x3F 0xB9 0xB6 0xC7 0x01 0x0E 0x47 0x48 0x69
-unfolding weigh fold equation3 updated put odd familyOf startOf headerEnd carriedOf endOf declaredEnd protocolOf nextOf fragmentOf between late unfinishedAt headerRules metOf walkBy walkOf walkRules outerRules rowOf saidIn fieldAt bodyOf pseudo silentOf messageRules shapeRules wholeRules sent updatedAt headerAfter messageAfter editRules lifetimeOf addressOf
+unfolding weigh fold equation3 updated put odd familyOf startOf headerEnd carriedOf endOf declaredEnd protocolOf nextOf fragmentOf walkOf walkRules outerRules rowOf saidIn fieldAt bodyOf pseudo silentOf messageRules shapeRules wholeRules sent updatedAt headerAfter messageAfter editRules lifetimeOf addressOf
 forwarded = refl
 
 -- ---- the same datagram with three bytes behind it in the packet
@@ -51,8 +51,25 @@ trailing : (judgeOf (trailed 0x40 0xB8 0xB3 0x0E 0x47 0x48 0x69 0xFF 0xFE 0xFF) 
     × (apply (stretch 1 (0x00 ∷ 0x00 ∷ [])) (trailed 0x40 0xB8 0xB3 0x0E 0x47 0x48 0x69 0xFF 0xFE 0xFF) .0 ≡ Place)
     × (run (stretch 2 (0x00 ∷ []) ∷ stretch 0 (0x56 ∷ 0xB0 ∷ []) ∷ lifetime ∷ []) (trailed 0x40 0xB8 0xB3 0x0E 0x47 0x48 0x69 0xFF 0xFE 0xFF)
     ≡ trailed 0x3F 0xB9 0xB3 0xFF 0xFF 0x56 0xB0 0xFF 0xFE 0xFF)
-unfolding weigh fold passes equation3 updated put odd familyOf startOf headerEnd carriedOf endOf declaredEnd protocolOf nextOf fragmentOf between late unfinishedAt headerRules metOf walkBy walkOf walkRules outerRules rowOf saidIn fieldAt bodyOf pseudo silentOf messageRules shapeRules wholeRules headerTotal messageTotal headerSums messageSums sumRules judgeRules judgeOf sent updatedAt headerAfter messageAfter editRules lifetimeOf blank stretchOf
+unfolding weigh fold passes equation3 updated put odd familyOf startOf headerEnd carriedOf endOf declaredEnd protocolOf nextOf fragmentOf walkOf walkRules outerRules rowOf saidIn fieldAt bodyOf pseudo silentOf messageRules shapeRules wholeRules headerTotal messageTotal headerSums messageSums sumRules judgeRules judgeOf sent updatedAt headerAfter messageAfter editRules lifetimeOf blank stretchOf
 trailing = (refl, refl, refl, refl)
+
+-- ---- a datagram from ::1 behind hop-by-hop options
+abbrev optioned : ℕ → ℕ → ℕ → ℕ → ℕ → List ℕ
+optioned life to fh fl b =
+    0x60 ∷ 0x00 ∷ 0x00 ∷ 0x00 ∷ 0x00 ∷ 0x12 ∷ 0x00 ∷ life
+    ∷ 0x00 ∷ 0x00 ∷ 0x00 ∷ 0x00 ∷ 0x00 ∷ 0x00 ∷ 0x00 ∷ 0x00 ∷ 0x00 ∷ 0x00 ∷ 0x00 ∷ 0x00 ∷ 0x00 ∷ 0x00 ∷ 0x00 ∷ 0x01
+    ∷ 0x00 ∷ 0x00 ∷ 0x00 ∷ 0x00 ∷ 0x00 ∷ 0x00 ∷ 0x00 ∷ 0x00 ∷ 0x00 ∷ 0x00 ∷ 0x00 ∷ 0x00 ∷ 0x00 ∷ 0x00 ∷ 0x00 ∷ to
+    ∷ 0x11 ∷ 0x00 ∷ 0x01 ∷ 0x04 ∷ 0x00 ∷ 0x00 ∷ 0x00 ∷ 0x00 ∷ 0x13 ∷ 0x88 ∷ 0x13 ∷ 0x89 ∷ 0x00 ∷ 0x0A ∷ fh ∷ fl ∷ 0x48 ∷ b ∷ []
+
+-- its sum is wrong with the first next header in the pseudo-header, and with the payload's length; edits see through the options
+optioning : (judgeOf (optioned 0x40 0x01 0x90 0x5E 0x69) ≡ Good)
+    × (judgeOf (optioned 0x40 0x01 0x90 0x6F 0x69) ≡ MessageSum)
+    × (judgeOf (optioned 0x40 0x01 0x90 0x56 0x69) ≡ MessageSum)
+    × (run (lifetime ∷ address 1 (0 ∷ 0 ∷ 0 ∷ 0 ∷ 0 ∷ 0 ∷ 0 ∷ 0 ∷ 0 ∷ 0 ∷ 0 ∷ 0 ∷ 0 ∷ 0 ∷ 0 ∷ 2 ∷ []) ∷ stretch 1 (0x6F ∷ []) ∷ []) (optioned 0x40 0x01 0x90 0x5E 0x69)
+    ≡ optioned 0x3F 0x02 0x90 0x57 0x6F)
+unfolding weigh fold passes equation3 updated put odd familyOf startOf headerEnd carriedOf endOf declaredEnd protocolOf nextOf fragmentOf between late unfinishedAt headerRules metOf walkBy walkOf walkRules outerRules rowOf saidIn fieldAt bodyOf pseudo silentOf messageRules shapeRules wholeRules headerTotal messageTotal headerSums messageSums sumRules judgeRules judgeOf sent updatedAt headerAfter messageAfter editRules lifetimeOf addressOf blank stretchOf
+optioning = (refl, refl, refl, refl)
 
 -- ---- a lifetime is lowered whatever is carried, and the verdict stays
 -- IPv4 with these flags, lifetime, protocol and header field, and ten bytes of which the fifth and sixth are UDP's length
@@ -88,7 +105,7 @@ fragment-edited : (apply (address 1 (0xC0 ∷ 0xA8 ∷ 0x00 ∷ 0x09 ∷ [])) (c
     ≡ carrier 0x20 0x01 0x3E 0x11 0xDA 0xB5 0x0A)
     × (used header (carrier 0x20 0x01 0x3E 0x11 0xDA 0xB5 0x0A) ≡ true) × (used message (carrier 0x20 0x01 0x3E 0x11 0xDA 0xB5 0x0A) ≡ false)
     × (freshHeader (carrier 0x20 0x01 0x3E 0x11 0xDA 0xB5 0x0A) ≡ 0xDAB5)
-unfolding weigh fold equation3 updated put odd familyOf startOf headerEnd carriedOf endOf declaredEnd protocolOf nextOf fragmentOf between late unfinishedAt headerRules metOf walkBy walkOf walkRules outerRules rowOf saidIn fieldAt bodyOf pseudo silentOf messageRules shapeRules wholeRules carries headerTotal freshHeader sent updatedAt headerAfter messageAfter editRules lifetimeOf addressOf blank stretchOf
+unfolding weigh fold equation3 updated put odd familyOf startOf headerEnd carriedOf endOf declaredEnd protocolOf nextOf fragmentOf walkOf walkRules outerRules rowOf saidIn fieldAt bodyOf pseudo silentOf messageRules shapeRules wholeRules carries headerTotal freshHeader sent updatedAt headerAfter messageAfter editRules lifetimeOf addressOf blank stretchOf
 fragment-edited = (refl, refl, refl, refl, refl, refl)
 
 -- ---- no negative zero
@@ -103,14 +120,14 @@ segment fh fl a b =
 no-negative-zero : (judgeOf (segment 0xFF 0xFF 0xFF 0xFF) ≡ Good) × (freshMessage (segment 0xFF 0xFF 0xFF 0xFF) ≡ 0x0000)
     × (apply (stretch 0 (0x00 ∷ 0x00 ∷ [])) (segment 0xFF 0xFF 0xFF 0xFF) ≡ (Good, segment 0x00 0x00 0x00 0x00))
     × (freshMessage (segment 0x00 0x00 0x00 0x00) ≡ 0x0000)
-unfolding weigh fold passes equation3 updated put odd familyOf startOf headerEnd carriedOf endOf declaredEnd protocolOf nextOf fragmentOf between late unfinishedAt headerRules metOf walkBy walkOf walkRules outerRules rowOf saidIn fieldAt bodyOf pseudo silentOf messageRules shapeRules wholeRules headerTotal messageTotal headerSums messageSums sumRules judgeRules judgeOf sent freshMessage updatedAt messageAfter editRules blank stretchOf
+unfolding weigh fold passes equation3 updated put odd familyOf startOf headerEnd carriedOf endOf declaredEnd protocolOf nextOf fragmentOf walkOf walkRules outerRules rowOf saidIn fieldAt bodyOf pseudo silentOf messageRules shapeRules wholeRules headerTotal messageTotal headerSums messageSums sumRules judgeRules judgeOf sent freshMessage updatedAt messageAfter editRules blank stretchOf
 no-negative-zero = (refl, refl, refl, refl)
 
 -- the paper's echo, its capture's second record
 echo-good : judgeOf
     (0x45 ∷ 0x00 ∷ 0x00 ∷ 0x1C ∷ 0x00 ∷ 0x00 ∷ 0x00 ∷ 0x00 ∷ 0x40 ∷ 0x01 ∷ 0x66 ∷ 0xDF ∷ 0x0A ∷ 0x00 ∷ 0x00 ∷ 0x01 ∷ 0x0A ∷ 0x00 ∷ 0x00 ∷ 0x02
     ∷ 0x08 ∷ 0x00 ∷ 0xF7 ∷ 0xFD ∷ 0x00 ∷ 0x01 ∷ 0x00 ∷ 0x01 ∷ []) ≡ Good
-unfolding weigh fold passes familyOf startOf headerEnd carriedOf endOf declaredEnd protocolOf nextOf fragmentOf between late unfinishedAt headerRules metOf walkBy walkOf walkRules outerRules rowOf saidIn fieldAt bodyOf pseudo silentOf messageRules shapeRules headerTotal messageTotal headerSums messageSums sumRules judgeRules judgeOf
+unfolding weigh fold passes familyOf startOf headerEnd carriedOf endOf declaredEnd protocolOf nextOf fragmentOf walkOf walkRules outerRules rowOf saidIn fieldAt bodyOf pseudo silentOf messageRules shapeRules headerTotal messageTotal headerSums messageSums sumRules judgeRules judgeOf
 echo-good = refl
 
 -- ---- why both halves of the blank rule are needed
@@ -124,11 +141,11 @@ icmp fh fl byte =
 blank-before : (apply (stretch 0 (8 ∷ [])) (icmp 0 0 0) .0 ≡ Blank)
     × (messageAfter (icmp 0 0 0) 8 28 (8 ∷ []) (icmp 0 0 8) ≡ icmp 0xF7 0xFF 8)
     × (judgeOf (icmp 0 0 0) ≡ MessageSum) × (judgeOf (icmp 0xF7 0xFF 8) ≡ Good)
-unfolding weigh fold passes equation3 updated put odd familyOf startOf headerEnd carriedOf endOf declaredEnd protocolOf nextOf fragmentOf between late unfinishedAt headerRules metOf walkBy walkOf walkRules outerRules rowOf saidIn fieldAt bodyOf pseudo silentOf messageRules shapeRules wholeRules headerTotal messageTotal headerSums messageSums sumRules judgeRules judgeOf sent updatedAt messageAfter editRules blank stretchOf
+unfolding weigh fold passes equation3 updated put odd familyOf startOf headerEnd carriedOf endOf declaredEnd protocolOf nextOf fragmentOf walkOf walkRules outerRules rowOf saidIn fieldAt bodyOf pseudo silentOf messageRules shapeRules wholeRules headerTotal messageTotal headerSums messageSums sumRules judgeRules judgeOf sent updatedAt messageAfter editRules blank stretchOf
 blank-before = (refl, refl, refl, refl)
 
 -- blank after: refused, since it would make a right sum wrong
 blank-after : (apply (stretch 0 (0 ∷ [])) (icmp 0xF7 0xFF 8) .0 ≡ Blank)
     × (messageAfter (icmp 0xF7 0xFF 8) 8 28 (0 ∷ []) (icmp 0xF7 0xFF 0) ≡ icmp 0 0 0)
-unfolding weigh fold equation3 updated put odd familyOf startOf headerEnd carriedOf endOf declaredEnd protocolOf nextOf fragmentOf between late unfinishedAt headerRules metOf walkBy walkOf walkRules outerRules rowOf saidIn fieldAt bodyOf pseudo silentOf messageRules shapeRules wholeRules sent updatedAt messageAfter editRules blank stretchOf
+unfolding weigh fold equation3 updated put odd familyOf startOf headerEnd carriedOf endOf declaredEnd protocolOf nextOf fragmentOf walkOf walkRules outerRules rowOf saidIn fieldAt bodyOf pseudo silentOf messageRules shapeRules wholeRules sent updatedAt messageAfter editRules blank stretchOf
 blank-after = (refl, refl)

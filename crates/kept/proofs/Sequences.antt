@@ -3,20 +3,24 @@ use mathlib.Core.Path.{_≡_, refl, sym, _∙_}
 use Prim.Native.Nat.{ℕ, _+_, _<_, _≤_}
 use native.Mathlib.Omega.{arith}
 use mathlib.Core.List.{List, [], _∷_}
+use mathlib.Core.Bool.{false}
 use lib.ListN.{length}
 use Rattle.verdicts.specs.Rules.{first}
 use Rattle.verdicts.specs.declared.Verdict.{Verdict}
 use Rattle.verdicts.specs.declared.Verdict.the-variants.{Good}
 use Rattle.verdicts.proofs.Rules.{first-map, first-either}
 use Rattle.wire.specs.Bytes.{byteAt, put, Bytes}
+use Rattle.wire.specs.Outer.{four}
+use Rattle.wire.specs.Walk.{walkOf, walkedOf}
 use Rattle.wire.specs.Inner.{tailAt}
 use Rattle.wire.proofs.Writes.{put-wrote, put-alike}
+use Rattle.wire.proofs.Same.{four-same, walked-same}
 use Rattle.wire.proofs.Tails.{tail-same}
 use Rattle.judge.specs.Judge.{judgeOf}
 use Rattle.mend.specs.Fresh.{Sum, Fresh}
 use Rattle.mend.specs.Mend.{mendOf, Outside}
 use Rattle.kept.specs.Runs.{Fit, Fits, Edit, apply, run, rulesOf, placeOf, newOf, written, bare, Untouched}
-use Rattle.kept.proofs.Single.{made, apply-as, accepted-clear, kept, new-stands, byte-stays, tail-stays, still}
+use Rattle.kept.proofs.Single.{made, apply-as, accepted-clear, kept, new-stands, byte-stays, tail-stays, still, read-stays, walk-stays}
 
 -- ---- the verdict
 -- the verdict after is the verdict before
@@ -53,6 +57,18 @@ tail-kept [] p i f b h = refl
 tail-kept (e ∷ es) p i f b h =
     let s = still e p (f .0) b in
     tail-kept es (apply e p .1) i (f .1) (s .bytes) (rw (tail-same (s .layout)) h) ∙ tail-stays e p i (f .0) b h
+
+-- nor anything that the walk reads: the headers between stay, and the walk leads to where it led
+pub walk-kept : (es : List Edit) (p : List ℕ) → Fits es → Bytes p → walkOf (run es p) ≡ walkOf p
+walk-kept [] p f b = refl
+walk-kept (e ∷ es) p f b = walk-kept es (apply e p .1) (f .1) (still e p (f .0) b .bytes) ∙ walk-stays e p (f .0) b
+
+pub headers-kept : (es : List Edit) (p : List ℕ) (i : ℕ) → Fits es → Bytes p → four p ≡ false → 40 ≤ i → i < walkedOf p → byteAt (run es p) i ≡ byteAt p i
+headers-kept [] p i f b v a h = refl
+headers-kept (e ∷ es) p i f b v a h =
+    let s = still e p (f .0) b in
+    headers-kept es (apply e p .1) i (f .1) (s .bytes) (four-same (s .layout .header) ∙ v) a (rw (walked-same (s .layout .header)) h)
+    ∙ read-stays e p i (f .0) b v a h
 
 -- an accepted edit's new bytes stand in place until a later one overwrites them
 pub new-stays : (e : Edit) (es : List Edit) (p : List ℕ) → Fits (e ∷ es) → Bytes p → apply e p .0 ≡ Good

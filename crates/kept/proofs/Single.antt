@@ -1,10 +1,10 @@
 -- One edit: that a refused one changes nothing, where its new bytes stand, and what it keeps.
 use mathlib.Core.Path.{_≡_, refl, sym, ap, ap₂, _∙_}
-use mathlib.Core.Logic.{_⊎_, ⊎-elim}
+use mathlib.Core.Logic.{_⊎_, inr, ⊎-elim}
 use Prim.Native.Nat.{ℕ, _+_, _-_, _<_, _≤_}
 use native.Mathlib.Omega.{arith}
 use mathlib.Core.List.{List}
-use mathlib.Core.Bool.{Bool, not, _&&_}
+use mathlib.Core.Bool.{Bool, false, not, _&&_}
 use lib.ListN.{length}
 use borrow.Author.Tests.{ltb-false}
 use Rattle.verdicts.specs.Rules.{first, clear}
@@ -15,12 +15,12 @@ use Rattle.verdicts.proofs.Rules.{clear-both}
 use Rattle.verdicts.proofs.Calls.{Refusals, call-refused, call-clear, call-done, call-either}
 use Rattle.wire.specs.Bytes.{byteAt, Bytes}
 use Rattle.wire.specs.Outer.{four, outerRules}
-use Rattle.wire.specs.Walk.{walkRules}
+use Rattle.wire.specs.Walk.{walkOf, walkRules, walkedOf}
 use Rattle.wire.specs.Messages.{shapeRules}
 use Rattle.wire.specs.Inner.{bodyOf, endOf, messageRules, wholeRules, carries, tailAt}
 use Rattle.wire.proofs.Writes.{put-wrote}
 use Rattle.wire.proofs.Facts.{OuterFacts, outer-facts}
-use Rattle.wire.proofs.Same.{SameLayout, same-layout, same-self, four-same}
+use Rattle.wire.proofs.Same.{SameLayout, same-layout, same-self, four-same, walk-same}
 use Rattle.wire.proofs.Held.{carries-clear, clear-carries, carries-same}
 use Rattle.wire.proofs.Tails.{tail-end, tail-order}
 use Rattle.judge.specs.Judge.{judgeOf}
@@ -190,3 +190,12 @@ still e p f b =
       uses = kept-uses k;
       right = kept-right k;
     })
+
+-- ---- the walk
+-- no byte that it reads changes
+pub read-stays : (e : Edit) (p : List ℕ) (i : ℕ) → Fit e → Bytes p → four p ≡ false → 40 ≤ i → i < walkedOf p → byteAt (apply e p .1) i ≡ byteAt p i
+read-stays e p i f b v a h = still e p f b .layout .header .reads i (inr (inr (v, a, h)))
+
+-- so it leads to where it led
+pub walk-stays : (e : Edit) (p : List ℕ) → Fit e → Bytes p → walkOf (apply e p .1) ≡ walkOf p
+walk-stays e p f b = walk-same (still e p f b .layout .header)

@@ -22,7 +22,7 @@ datagram high low fh fl =
     ∷ 0x13 ∷ 0x88 ∷ 0x13 ∷ 0x89 ∷ 0x00 ∷ 0x0A ∷ fh ∷ fl ∷ 0x48 ∷ 0x69 ∷ []
 
 mended-udp : mendOf (datagram 0x12 0x34 0x00 0x01) ≡ (Good, datagram 0xB8 0xB6 0x0E 0x47)
-unfolding weigh fold put familyOf headerEnd declaredEnd protocolOf nextOf fragmentOf between late unfinishedAt headerRules metOf walkBy walkOf walkRules outerRules rowOf saidIn startOf carriedOf endOf fieldAt bodyOf pseudo silentOf messageRules shapeRules wholeRules headerTotal messageTotal sent freshHeader freshMessage mendedHeader mendedMessage mendOf
+unfolding weigh fold put familyOf headerEnd declaredEnd protocolOf nextOf fragmentOf walkOf walkRules outerRules rowOf saidIn startOf carriedOf endOf fieldAt bodyOf pseudo silentOf messageRules shapeRules wholeRules headerTotal messageTotal sent freshHeader freshMessage mendedHeader mendedMessage mendOf
 mended-udp = refl
 
 -- the same datagram with three bytes behind it in the packet: its field is the same, and they stay
@@ -32,7 +32,7 @@ trailed high low fh fl =
     ∷ 0x13 ∷ 0x88 ∷ 0x13 ∷ 0x89 ∷ 0x00 ∷ 0x0A ∷ fh ∷ fl ∷ 0x48 ∷ 0x69 ∷ 0xAB ∷ 0xCD ∷ 0xEF ∷ []
 
 mended-trailing : mendOf (trailed 0x12 0x34 0x00 0x01) ≡ (Good, trailed 0xB8 0xB3 0x0E 0x47)
-unfolding weigh fold put familyOf headerEnd declaredEnd protocolOf nextOf fragmentOf between late unfinishedAt headerRules metOf walkBy walkOf walkRules outerRules rowOf saidIn startOf carriedOf endOf fieldAt bodyOf pseudo silentOf messageRules shapeRules wholeRules headerTotal messageTotal sent freshHeader freshMessage mendedHeader mendedMessage mendOf
+unfolding weigh fold put familyOf headerEnd declaredEnd protocolOf nextOf fragmentOf walkOf walkRules outerRules rowOf saidIn startOf carriedOf endOf fieldAt bodyOf pseudo silentOf messageRules shapeRules wholeRules headerTotal messageTotal sent freshHeader freshMessage mendedHeader mendedMessage mendOf
 mended-trailing = refl
 
 -- TCP over IPv4: the window, 2000, stands before the field and stays
@@ -43,7 +43,7 @@ segment high low fh fl =
     ∷ 0x48 ∷ 0x69 ∷ 0x21 ∷ 0x0A ∷ []
 
 mended-tcp : mendOf (segment 0x12 0x34 0x00 0x01) ≡ (Good, segment 0xB8 0xB3 0x90 0x79)
-unfolding weigh fold put familyOf headerEnd declaredEnd protocolOf nextOf fragmentOf between late unfinishedAt headerRules metOf walkBy walkOf walkRules outerRules rowOf saidIn startOf carriedOf endOf fieldAt bodyOf pseudo silentOf messageRules shapeRules wholeRules headerTotal messageTotal sent freshHeader freshMessage mendedHeader mendedMessage mendOf
+unfolding weigh fold put familyOf headerEnd declaredEnd protocolOf nextOf fragmentOf walkOf walkRules outerRules rowOf saidIn startOf carriedOf endOf fieldAt bodyOf pseudo silentOf messageRules shapeRules wholeRules headerTotal messageTotal sent freshHeader freshMessage mendedHeader mendedMessage mendOf
 mended-tcp = refl
 
 -- ICMPv6 from ::1 to ::1
@@ -58,6 +58,18 @@ mended-icmp6 : mendOf (echo 0x00 0x00) ≡ (Good, echo 0x7F 0xB9)
 unfolding weigh fold put familyOf headerEnd declaredEnd protocolOf nextOf fragmentOf between late unfinishedAt headerRules metOf walkBy walkOf walkRules outerRules rowOf saidIn startOf carriedOf endOf fieldAt bodyOf pseudo silentOf messageRules shapeRules wholeRules headerTotal messageTotal sent freshHeader freshMessage mendedHeader mendedMessage mendOf
 mended-icmp6 = refl
 
+-- UDP from ::1 to ::1 behind hop-by-hop options: the field is that of the datagram alone, with its own protocol and length
+abbrev optioned : ℕ → ℕ → List ℕ
+optioned fh fl =
+    0x60 ∷ 0x00 ∷ 0x00 ∷ 0x00 ∷ 0x00 ∷ 0x12 ∷ 0x00 ∷ 0x40
+    ∷ 0x00 ∷ 0x00 ∷ 0x00 ∷ 0x00 ∷ 0x00 ∷ 0x00 ∷ 0x00 ∷ 0x00 ∷ 0x00 ∷ 0x00 ∷ 0x00 ∷ 0x00 ∷ 0x00 ∷ 0x00 ∷ 0x00 ∷ 0x01
+    ∷ 0x00 ∷ 0x00 ∷ 0x00 ∷ 0x00 ∷ 0x00 ∷ 0x00 ∷ 0x00 ∷ 0x00 ∷ 0x00 ∷ 0x00 ∷ 0x00 ∷ 0x00 ∷ 0x00 ∷ 0x00 ∷ 0x00 ∷ 0x01
+    ∷ 0x11 ∷ 0x00 ∷ 0x01 ∷ 0x04 ∷ 0x00 ∷ 0x00 ∷ 0x00 ∷ 0x00 ∷ 0x13 ∷ 0x88 ∷ 0x13 ∷ 0x89 ∷ 0x00 ∷ 0x0A ∷ fh ∷ fl ∷ 0x48 ∷ 0x69 ∷ []
+
+mended-between : mendOf (optioned 0x00 0x00) ≡ (Good, optioned 0x90 0x5E)
+unfolding weigh fold put familyOf headerEnd declaredEnd protocolOf nextOf fragmentOf between late unfinishedAt headerRules metOf walkBy walkOf walkRules outerRules rowOf saidIn startOf carriedOf endOf fieldAt bodyOf pseudo silentOf messageRules shapeRules wholeRules headerTotal messageTotal sent freshHeader freshMessage mendedHeader mendedMessage mendOf
+mended-between = refl
+
 -- ICMP over IPv4, all zeros but for its field: mending is no update, and FFFF stays
 abbrev blank : ℕ → ℕ → List ℕ
 blank fh fl =
@@ -65,5 +77,5 @@ blank fh fl =
     ∷ 0x00 ∷ 0x00 ∷ fh ∷ fl ∷ 0x00 ∷ 0x00 ∷ 0x00 ∷ 0x00 ∷ []
 
 mended-blank : mendOf (blank 0x00 0x00) ≡ (Good, blank 0xFF 0xFF)
-unfolding weigh fold put familyOf headerEnd declaredEnd protocolOf nextOf fragmentOf between late unfinishedAt headerRules metOf walkBy walkOf walkRules outerRules rowOf saidIn startOf carriedOf endOf fieldAt bodyOf pseudo silentOf messageRules shapeRules wholeRules headerTotal messageTotal sent freshHeader freshMessage mendedHeader mendedMessage mendOf
+unfolding weigh fold put familyOf headerEnd declaredEnd protocolOf nextOf fragmentOf walkOf walkRules outerRules rowOf saidIn startOf carriedOf endOf fieldAt bodyOf pseudo silentOf messageRules shapeRules wholeRules headerTotal messageTotal sent freshHeader freshMessage mendedHeader mendedMessage mendOf
 mended-blank = refl

@@ -21,12 +21,12 @@ use Rattle.verdicts.proofs.Calls.{call-answers, call-refused, call-clear, call-
 use Rattle.sums.specs.Fold.{passes}
 use Rattle.wire.specs.Bytes.{byteAt, wordAt, put, putWord, Bytes}
 use Rattle.wire.specs.Outer.{four, headerField, outerRules}
-use Rattle.wire.specs.Walk.{walkRules}
+use Rattle.wire.specs.Walk.{walkOf, walkRules}
 use Rattle.wire.specs.Messages.{shapeRules}
 use Rattle.wire.specs.Inner.{fieldAt, messageRules, silentOf, udp, wholeRules, carries, tailAt}
 use Rattle.wire.proofs.Facts.{OuterFacts}
 use Rattle.wire.proofs.Writes.{word-small}
-use Rattle.wire.proofs.Same.{same-layout, silent-at, four-same, same-self, whole-same}
+use Rattle.wire.proofs.Same.{same-layout, silent-at, four-same, same-self, walk-same, whole-same}
 use Rattle.wire.proofs.Held.{carries-clear, clear-carries, whole-facts}
 use Rattle.wire.proofs.Tails.{tail-end, tail-order}
 use Rattle.cover.specs.Sums.{headerTotal, messageTotal, headerSums, messageSums}
@@ -80,6 +80,11 @@ module _ (p : List ℕ) where
   mend-tail i h =
       call-either (wholeRules p) p (mendedMessage (mendedHeader p)) (λ q. byteAt q i ≡ byteAt p i) refl
       (λ c. both-set p c .others i (tail-outside p i (whole-facts p c .outer) h))
+
+  -- the walk leads to where it led
+  pub mend-walk : walkOf (mendOf p .1) ≡ walkOf p
+  unfolding mendOf
+  mend-walk = call-either (wholeRules p) p (mendedMessage (mendedHeader p)) (λ q. walkOf q ≡ walkOf p) refl (λ c. walk-same (both-set p c .same .header))
 
   done : clear (wholeRules p) → mendOf p ≡ (Good, mendedMessage (mendedHeader p))
   unfolding mendOf

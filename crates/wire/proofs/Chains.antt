@@ -8,7 +8,7 @@ use mathlib.Core.List.{List}
 use Rattle.verdicts.specs.declared.Verdict.{Verdict}
 use Rattle.verdicts.specs.declared.Verdict.the-variants.{Uncovered}
 use Rattle.wire.specs.Bytes.{byteAt}
-use Rattle.wire.specs.Walk.{Way, refused, reached, sizeAt, metOf, going, walkBy, startIn}
+use Rattle.wire.specs.Walk.{Way, refused, reached, sizeAt, metOf, going, walkBy, startIn, walkedIn}
 use Rattle.wire.specs.Chain.{Passed, Other, Refusal, Chain, here, over, Closes, refuses, arrives, Ends}
 use Rattle.wire.specs.Chain as chain
 use Rattle.wire.specs.declared.way.Met.{Met}
@@ -91,11 +91,6 @@ pub walk-by-within : (p : List ℕ) (end left n at : ℕ) → at ≤ end → (at
 walk-by-within p end left n at h = let w = walk-by-ends p end left n at in start-within h (w .chain) (w .closes)
 
 -- ---- bytes that no chain is read from
--- how far a walk reads: up to the message that it reaches; where it is refused, at most up to the payload's end
-abbrev pub walkedIn : ℕ → Way → ℕ
-walkedIn end (refused v) = end
-walkedIn end (reached n at) = at
-
 pub walked-in : (header end : ℕ) (w : Way) → startIn header w ≤ end → walkedIn end w ≤ end
 walked-in header end (refused v) h = omega arith
 walked-in header end (reached n at) h = h

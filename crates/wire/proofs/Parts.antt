@@ -36,14 +36,17 @@ byte-same p q a n i e =
 pub length-same : (p q : List ℕ) (a n : ℕ) → length q ≡ length p → length (part q a n) ≡ length (part p a n)
 length-same p q a n e = simp (length-take, length-drop, e)
 
--- the same bytes at the same place
+-- the same bytes at another place, and at the same
+pub part-moved : (p q : List ℕ) (a b n : ℕ) → a + n ≤ length p → b + n ≤ length q → ((i : ℕ) → i < n → byteAt q (b + i) ≡ byteAt p (a + i)) → part q b n ≡ part p a n
+part-moved p q a b n h k same =
+    ext-getD 0 (part q b n) (part p a n) (part-length q b n k ∙ sym (part-length p a n h))
+    (λ i l.
+    let m : i < n = omega (arith, part-length q b n k) in
+    part-byte q b n i m ∙ same i m ∙ sym (part-byte p a n i m))
+
 pub part-same : (p q : List ℕ) (a n : ℕ) → a + n ≤ length p → a + n ≤ length q → ((i : ℕ) → a ≤ i → i < a + n → byteAt q i ≡ byteAt p i)
     → part q a n ≡ part p a n
-part-same p q a n h k same =
-    ext-getD 0 (part q a n) (part p a n) (part-length q a n k ∙ sym (part-length p a n h))
-    (λ i l.
-    let m : i < n = omega (arith, part-length q a n k) in
-    part-byte q a n i m ∙ same (a + i) (omega arith) (omega arith) ∙ sym (part-byte p a n i m))
+part-same p q a n h k same = part-moved p q a a n h k (λ i l. same (a + i) (omega arith) (omega arith))
 
 -- a part in two
 pub part-add : (p : List ℕ) (a m n : ℕ) → part p a (m + n) ≡ part p a m ++ part p (a + m) n

@@ -11,10 +11,11 @@ use borrow.Author.Tests.{le-ltb, ne-eqb}
 use Rattle.verdicts.proofs.Tests.{by-cases}
 use Rattle.wire.specs.Bytes.{byteAt}
 use Rattle.wire.specs.Outer.{four, leastOf, headerEnd, declaredEnd, outerRules}
+use Rattle.wire.specs.Walk.{walkedOf}
 use Rattle.wire.specs.Inner.{endOf, carries, tailAt, UpToTail}
 use Rattle.wire.proofs.Facts.{OuterFacts, Facts, outer-facts, carried-length}
 use Rattle.wire.proofs.Writes.{Agree}
-use Rattle.wire.proofs.Same.{walkedOf, walked-within, walked-start, SameHeader, MessageReads, SameLayout, declared-same, start-same, end-same}
+use Rattle.wire.proofs.Same.{walked-within, walked-start, SameHeader, MessageReads, SameLayout, declared-same, start-same, end-same}
 use Rattle.wire.proofs.Held.{carries-clear, carries-same, whole-facts}
 
 -- ---- where it begins

@@ -7,12 +7,14 @@ use mathlib.Core.List.{List}
 use mathlib.Core.Bool.{true, false, true≢false}
 use borrow.Author.Tests.{eqb-true}
 use Rattle.verdicts.specs.Numbers.{numberOf}
+use Rattle.verdicts.specs.Rules.{clear}
 use Rattle.verdicts.specs.declared.Verdict.{Verdict}
 use Rattle.verdicts.specs.declared.Verdict.the-variants.{Shape, Fragment, Uncovered}
 use Rattle.wire.specs.Bytes.{byteAt, wordAt}
-use Rattle.wire.specs.Outer.{four}
-use Rattle.wire.specs.Walk.{Way, refused, reached, walkOf, ends}
+use Rattle.wire.specs.Outer.{four, headerEnd}
+use Rattle.wire.specs.Walk.{Way, refused, reached, walkOf, ends, refusals, walkRules, protocolIn, startIn}
 use Rattle.wire.specs.Chain.{Other, Chain, Closes, refuses, arrives, WalksTo}
+use Rattle.wire.specs.Inner.{protocolOf, startOf}
 use Rattle.wire.proofs.Chains.{walk-by-ends, ends-walk-by, chain-order, chain-within}
 use Rattle.wire.proofs.Facts.{walk-six}
 use Rattle.wire.proofs.Held.{Three, Ruled, walk-ruled}
@@ -73,3 +75,12 @@ ends-in (reached n at) r v t e = absurd (true≢false (sym e))
 
 pub walk-ends-in : (p : List ℕ) (v : Verdict) → Three v → ends (walkOf p) v ≡ true → walkOf p ≡ refused v
 walk-ends-in p v t e = ends-in (walkOf p) (walk-ruled p) v t e
+
+-- ---- and where it ends in none
+clear-way : (header : ℕ) (w : Way) → Ruled w → clear (refusals w) → w ≡ reached (protocolIn w) (startIn header w)
+clear-way header (refused v) r c = absurd (true≢false (⊎-elim (λ e. rw e at (c .0)) (⊎-elim (λ e. rw e at (c .1 .0)) (λ e. rw e at (c .1 .1 .0))) r))
+clear-way header (reached n at) r c = refl
+
+pub clear-reached : (p : List ℕ) → clear (walkRules p) → walkOf p ≡ reached (protocolOf p) (startOf p)
+unfolding walkRules protocolOf startOf
+clear-reached p c = clear-way (headerEnd p) (walkOf p) (walk-ruled p) c

@@ -92,3 +92,11 @@ protocolIn (reached n at) = n
 abbrev pub startIn : ℕ → Way → ℕ
 startIn header (refused v) = header
 startIn header (reached n at) = at
+
+-- how far it reads: up to the message, and where it is refused no further than up to the payload's end
+abbrev pub walkedIn : ℕ → Way → ℕ
+walkedIn end (refused v) = end
+walkedIn end (reached n at) = at
+
+unfoldable pub walkedOf : List ℕ → ℕ
+walkedOf p = walkedIn (declaredEnd p) (walkOf p)

@@ -1,0 +1,13 @@
+-- An IPv6 packet with its headers between taken out.
+use Prim.Native.Nat.{ℕ, _-_, _/_, _%_}
+use mathlib.Core.List.{List, [], _∷_, _++_}
+use lib.ListN.{take, drop}
+use Rattle.wire.specs.Bytes.{put}
+use Rattle.wire.specs.Outer.{declaredEnd}
+use Rattle.wire.specs.Inner.{protocolOf, startOf}
+
+-- its fixed header, with the payload's length lowered and the next header set to the message's protocol, and what follows them
+unfoldable pub stripped : List ℕ → List ℕ
+stripped p =
+    let payload = declaredEnd p - startOf p in
+    put (take 40 p ++ drop (startOf p) p) 4 (payload / 256 ∷ payload % 256 ∷ protocolOf p ∷ [])
