@@ -21,13 +21,13 @@ struct Maker {
     count: u64,
     desk: Desk,
     cover: Option<Cover>,
-    /// Whether any shape of UDP may have a trailing area. In the older stored cases none has: they stay the same bytes.
-    trailing: bool,
+    /// What shapes are drawn. In the older stored cases none has a trailing area: they stay the same bytes.
+    shapes: fn((u8, u8), usize, &mut Random) -> Shape,
 }
 
 impl Maker {
     fn new(seed: u64, cover: Option<Cover>) -> Self {
-        Maker { random: Random(seed), bytes: Vec::new(), count: 0, desk: Desk::default(), cover, trailing: true }
+        Maker { random: Random(seed), bytes: Vec::new(), count: 0, desk: Desk::default(), cover, shapes: Shape::any }
     }
 
     fn add(&mut self, case: Case) {
@@ -67,17 +67,15 @@ impl Maker {
         self.any_shape(kind, body).good(&mut self.random)
     }
 
-    /// Perhaps options, perhaps a tail, and for UDP perhaps a trailing area, if it may have one.
     fn any_shape(&mut self, kind: (u8, u8), body: usize) -> Shape {
-        let any = if self.trailing { Shape::any } else { Shape::any_whole };
-        any(kind, body, &mut self.random)
+        (self.shapes)(kind, body, &mut self.random)
     }
 }
 
 /// The stored cases and their number; an error if they don't reach what they must.
 pub fn stored(seed: u64) -> Result<(Vec<u8>, u64), String> {
     let mut maker = Maker::new(seed, Some(Cover::default()));
-    maker.trailing = false;
+    maker.shapes = Shape::any_whole;
     maker.sums();
     maker.packets();
     maker.corners();
@@ -86,7 +84,7 @@ pub fn stored(seed: u64) -> Result<(Vec<u8>, u64), String> {
     maker.long_chains();
     maker.zeros();
     maker.lifetimes_of_any();
-    maker.trailing = true;
+    maker.shapes = Shape::any;
     maker.trailing_areas();
     if let Some(cover) = &maker.cover {
         cover.check()?;

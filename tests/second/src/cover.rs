@@ -204,7 +204,7 @@ impl Cover {
             return;
         }
         self.reach(format!("{kind}: stretch at {} place, {} length", parity(place), parity(length as u64)));
-        let start = before.header_length() + before.body_offset() + place as usize;
+        let start = before.message_start() + before.body_offset() + place as usize;
         if before.bytes[start..].starts_with(&case.two) {
             self.reach(format!("{kind}: the same stretch again"));
         }

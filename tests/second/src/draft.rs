@@ -120,8 +120,8 @@ pub fn write_word(packet: &mut [u8], place: usize, word: u16) {
 
 /// Declares another message length.
 pub fn declare(packet: &mut [u8], family: u8, length: usize) {
-    let header = View::read_as(packet, family).header_length();
-    let (place, declared) = if family == 4 { (2, header + length) } else { (4, length) };
+    let end = View::read_as(packet, family).message_start() + length;
+    let (place, declared) = if family == 4 { (2, end) } else { (4, end - 40) };
     write_word(packet, place, declared as u16);
 }
 
@@ -220,10 +220,10 @@ pub fn spoil(packet: &mut Vec<u8>, family: u8, faults: &[Fault], random: &mut Ra
 
 fn put_before_sums(packet: &mut [u8], family: u8, fault: Fault, random: &mut Random) {
     let view = View::read_as(packet, family);
-    let (header, end, lifetime, protocol) =
-        (view.header_length(), view.end(), view.lifetime_place(), view.protocol_place());
+    let (header, message, end) = (view.header_length(), view.message_start(), view.end());
+    let (lifetime, protocol) = (view.lifetime_place(), view.protocol_place());
     match fault {
-        Blank => packet[header..end.max(header)].fill(0),
+        Blank => packet[message..end.max(message)].fill(0),
         Spent => packet[lifetime] = random.between(0, 1) as u8,
         InnerLength => put_inner_length(packet, family, random),
         MessageLength => {
@@ -252,7 +252,7 @@ fn put_before_sums(packet: &mut [u8], family: u8, fault: Fault, random: &mut Ran
 /// message, or leaves a trailing area.
 fn put_inner_length(packet: &mut [u8], family: u8, random: &mut Random) {
     let view = View::read_as(packet, family);
-    let (message, length) = (view.header_length(), view.message_length());
+    let (message, length) = (view.message_start(), view.message_length());
     if view.protocol() == TCP {
         let wrong: Vec<u8> = (0..16).filter(|words| *words < 5 || 4 * usize::from(*words) > length).collect();
         packet[message + 12] = packet[message + 12] & 0x0F | random.pick(&wrong) << 4;
@@ -266,7 +266,7 @@ fn put_inner_length(packet: &mut [u8], family: u8, random: &mut Random) {
 fn put_after_sums(packet: &mut Vec<u8>, family: u8, fault: Fault, random: &mut Random) {
     let view = View::read_as(packet, family);
     let (least, end, field) = (view.least(), view.end(), view.field_place());
-    let message = view.header_length().max(least);
+    let message = view.message_start().max(least);
     match fault {
         Zero if field + 2 <= packet.len() => write_word(packet, field, 0),
         HeaderSum => packet[HEADER_FIELD] ^= 1 << random.between(0, 7),

@@ -144,7 +144,7 @@ pub fn set_stretch(packet: &mut [u8], place: u64, new: &[u8]) -> Verdict {
     }
     let in_message = view.body_offset() + place as usize;
     let in_covered_block = view.pseudo_header().len() + in_message;
-    let in_packet = view.header_length() + in_message;
+    let in_packet = view.message_start() + in_message;
     let old = replace(packet, in_packet, new);
     update_message_field(packet, in_covered_block, &old, new);
     GOOD

@@ -23,7 +23,7 @@ pub fn fresh_header_field(view: &View) -> Field {
 
 /// The message field as computed, before UDP's rule for 0000.
 pub fn computed_message_field(view: &View) -> Field {
-    let place = view.pseudo_header().len() + view.field_place() - view.header_length();
+    let place = view.pseudo_header().len() + view.field_place() - view.message_start();
     computed(view.covered_block(), place)
 }
 

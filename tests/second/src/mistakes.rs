@@ -32,7 +32,7 @@ fn trailing_area(view: &View) -> u128 {
 
 /// An odd datagram's last byte makes a word with the byte behind it.
 fn padding(view: &View) -> u128 {
-    let end = view.header_length() + view.covered_length();
+    let end = view.message_start() + view.covered_length();
     match view.covered_length() % 2 {
         1 => total_behind(view, end + 1),
         _ => 0,
@@ -42,7 +42,7 @@ fn padding(view: &View) -> u128 {
 /// The total of the bytes behind the datagram, up to a place, each by its position in the covered block.
 fn total_behind(view: &View, to: usize) -> u128 {
     let datagram = view.covered_length();
-    total_at(datagram as u128, &view.bytes[view.header_length() + datagram..to])
+    total_at(datagram as u128, &view.bytes[view.message_start() + datagram..to])
 }
 
 impl Mistake {

@@ -124,14 +124,19 @@ impl<'a> View<'a> {
         &self.bytes[..self.header_length().min(self.bytes.len())]
     }
 
-    pub fn message_length(&self) -> usize {
-        self.end().saturating_sub(self.header_length())
+    /// Where the message begins.
+    pub fn message_start(&self) -> usize {
+        self.header_length()
     }
 
-    /// What lies between the IP header and the declared end.
+    pub fn message_length(&self) -> usize {
+        self.end().saturating_sub(self.message_start())
+    }
+
+    /// What lies between its start and the declared end.
     pub fn message(&self) -> &'a [u8] {
         let end = self.end().min(self.bytes.len());
-        &self.bytes[self.header_length().min(end)..end]
+        &self.bytes[self.message_start().min(end)..end]
     }
 
     /// The protocol's row of the table, of whichever family.
@@ -165,17 +170,17 @@ impl<'a> View<'a> {
 
     /// The place of the message field in the packet.
     pub fn field_place(&self) -> usize {
-        self.header_length() + self.row().map_or(0, |row| row.field)
+        self.message_start() + self.row().map_or(0, |row| row.field)
     }
 
     /// TCP's data offset in words.
     pub fn data_offset(&self) -> usize {
-        usize::from(self.byte(self.header_length() + 12) >> 4)
+        usize::from(self.byte(self.message_start() + 12) >> 4)
     }
 
     /// UDP's own length, which is that of the datagram.
     pub fn udp_length(&self) -> usize {
-        usize::from(self.word(self.header_length() + 4))
+        usize::from(self.word(self.message_start() + 4))
     }
 
     /// Whether UDP's length is from 8 up to the message length.

@@ -25,7 +25,7 @@ impl Updated {
 
 /// The fields that an accepted edit updates.
 pub fn updated_fields(case: &Case, before: &View) -> Vec<Updated> {
-    let (pseudo, message) = (before.pseudo_header().len(), before.header_length());
+    let (pseudo, message) = (before.pseudo_header().len(), before.message_start());
     let body = before.body_offset() + case.number as usize;
     let lower = [before.byte(before.lifetime_place()).wrapping_sub(1)];
     // where the new bytes are in the packet, and where in the covered block

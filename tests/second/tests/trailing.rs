@@ -16,7 +16,7 @@ const KINDS: [(u8, u8); 2] = [(4, UDP), (6, UDP)];
 /// The place behind the datagram, or behind the message where the UDP length doesn't fit.
 fn datagram_end(packet: &[u8]) -> usize {
     let view = View::new(packet);
-    view.header_length() + view.covered_length()
+    view.message_start() + view.covered_length()
 }
 
 /// A packet with a trailing area, good or with a fault that leaves it.
@@ -113,7 +113,7 @@ fn from_8_up_to_the_message_length() {
     let mut random = Random(60);
     for (kind, message) in KINDS.into_iter().flat_map(|kind| (8..=40).map(move |message| (kind, message))) {
         let good = Shape::plain(kind, message - 8).good(&mut random);
-        let (place, address) = (View::new(&good).header_length() + 4, vec![7; View::new(&good).address_length()]);
+        let (place, address) = (View::new(&good).message_start() + 4, vec![7; View::new(&good).address_length()]);
         for length in (0..=message + 3).chain([0x0800, 0x8000, 0xFFFF]) {
             let mut packet = good.clone();
             write_word(&mut packet, place, length as u16);
@@ -136,7 +136,7 @@ fn a_message_under_8_bytes_has_no_datagram() {
     for (kind, message) in KINDS.into_iter().flat_map(|kind| (0..8).map(move |message| (kind, message))) {
         for length in 0..=9 {
             let mut packet = Shape::plain(kind, 4).good(&mut random);
-            let place = View::new(&packet).header_length() + 4;
+            let place = View::new(&packet).message_start() + 4;
             write_word(&mut packet, place, length);
             declare(&mut packet, kind.0, message);
             refresh(&mut packet, kind.0);
@@ -335,7 +335,7 @@ fn the_generator_refuses_wrong_outcomes() {
         assert!(!impossible(MEND, 0, &[], &wrong, &good, 0));
         assert!(impossible(MEND, 0, &[], &wrong, &wrong, 0));
         for length in [0, 7, 17, 0xFFFF] {
-            let packet = with(view.header_length() + 4, length);
+            let packet = with(view.message_start() + 4, length);
             assert!(!impossible(JUDGE, 0, &[], &packet, &packet, 4));
             assert!([0, 9].into_iter().all(|verdict| impossible(JUDGE, 0, &[], &packet, &packet, verdict)));
             assert!(impossible(MEND, 0, &[], &packet, &packet, 0));

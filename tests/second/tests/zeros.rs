@@ -94,7 +94,7 @@ fn the_neighbours_packet() {
 fn any_balanced(kind: (u8, u8), random: &mut Random) -> Vec<u8> {
     let shape = Shape::any(kind, random.between(4, 24), random);
     let mut packet = shape.good(random);
-    let message = View::new(&packet).header_length();
+    let message = View::new(&packet).message_start();
     let (side, place) = (random.between(0, 1), shape.headers() + random.between(0, shape.body - 2));
     let (address, length) = (View::new(&packet).address_place(side), View::new(&packet).address_length());
     packet[address..address + length].fill(0xFF);
@@ -171,7 +171,7 @@ fn udp_in_the_corner() {
         let length = if family == 4 { 4 } else { 16 };
         for zero in [false, true] {
             let mut packet = Shape::plain((family, UDP), 6).good(&mut random);
-            let (message, end) = (View::new(&packet).header_length(), packet.len());
+            let (message, end) = (View::new(&packet).message_start(), packet.len());
             packet[end - 2..].fill(0xFF);
             packet[message - length..message].fill(0xFF);
             balance_message(&mut packet, family, message);
@@ -203,7 +203,7 @@ fn a_damaged_packet_in_the_corner_stays_damaged() {
     for (family, protocol) in KINDS {
         for header in [false, true] {
             let mut packet = Shape::plain((family, protocol), 5).good(&mut random);
-            let (message, end) = (View::new(&packet).header_length(), packet.len());
+            let (message, end) = (View::new(&packet).message_start(), packet.len());
             packet[end - 3..].copy_from_slice(&[0x80, 0xFF, 0x7F]);
             balance_message(&mut packet, family, message);
             let field = View::new(&packet).field_place();

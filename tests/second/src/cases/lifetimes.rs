@@ -46,7 +46,7 @@ impl Maker {
     }
 
     /// A lifetime edit of a packet with each of four lifetimes.
-    fn lowered(&mut self, packet: &[u8]) {
+    pub fn lowered(&mut self, packet: &[u8]) {
         for lifetime in LIFETIMES {
             let packet = aged(packet, lifetime);
             self.given(LIFETIME, 0, &packet, &[]);
@@ -56,7 +56,7 @@ impl Maker {
 
     /// Two lifetime edits down to 1 and one that is refused there, with calls between that refuse the packet; the
     /// mender takes it if it has no other fault than 0000 in UDP over IPv6.
-    fn in_turn(&mut self, packet: &[u8]) {
+    pub fn in_turn(&mut self, packet: &[u8]) {
         let (packet, length) = (aged(packet, 3), View::new(packet).address_length());
         let (address, new) = (self.random.contents(length), self.random.contents(1));
         self.given(JUDGE, 0, &packet, &[]);
@@ -153,7 +153,7 @@ impl Maker {
             for family in row.families {
                 let good = self.any_good((*family, row.protocol));
                 let whole = Shape::plain((*family, row.protocol), 7).good(&mut self.random);
-                let (message, length) = (View::new(&whole).header_length(), View::new(&whole).message_length());
+                let (message, length) = (View::new(&whole).message_start(), View::new(&whole).message_length());
                 for short in [0, 1, row.fixed - 1] {
                     let mut packet = good.clone();
                     declare(&mut packet, *family, short);

@@ -73,7 +73,7 @@ impl Maker {
     /// A packet with a message of this length, perhaps a tail, and any UDP length; its field is fresh.
     fn with_udp_length(&mut self, kind: (u8, u8), (message, tail): (usize, usize), length: usize) -> Vec<u8> {
         let mut packet = Shape { tail, ..Shape::plain(kind, message - 8) }.good(&mut self.random);
-        let place = View::new(&packet).header_length() + 4;
+        let place = View::new(&packet).message_start() + 4;
         write_word(&mut packet, place, length as u16);
         refresh(&mut packet, kind.0);
         packet
@@ -161,7 +161,7 @@ impl Maker {
     }
 
     /// A packet judged, edited in each way and refused once, judged again, and mended.
-    fn edited_then_mended(&mut self, packet: &[u8]) {
+    pub fn edited_then_mended(&mut self, packet: &[u8]) {
         let (address, new) = self.new_bytes(View::new(packet).family);
         self.given(JUDGE, 0, packet, &[]);
         self.left(ADDRESS, 0, &address);
@@ -249,36 +249,42 @@ impl Maker {
         }
     }
 
-    /// Every two calls one after the other, each call where the sum is wrong or there is none, and random ones.
+    /// Calls one after the other, and random ones.
     fn trailing_in_turn(&mut self, kind: (u8, u8)) {
         let packet = Shape { trailing: 9, ..Shape::plain(kind, 5) }.good(&mut self.random);
-        let (address, new) = self.new_bytes(kind.0);
+        self.every_two_calls(&packet, &[Fault::Zero, Fault::MessageSum]);
+        for faults in [&[][..], &[Fault::Zero], &[Fault::MessageSum]].repeat(3) {
+            let packet = self.trailing_with(kind, faults);
+            self.edits_in_turn(&packet);
+        }
+    }
+
+    /// Every two calls one after the other, and each call where the packet has one of some faults.
+    pub fn every_two_calls(&mut self, packet: &[u8], faults: &[Fault]) {
+        let (family, body) = (View::new(packet).family, View::new(packet).body_length() as u64);
+        let (address, new) = self.new_bytes(family);
         let calls: [(u8, u64, &[u8]); 6] = [
             (LIFETIME, 0, &[]),
             (ADDRESS, 0, &address),
             (ADDRESS, 2, &address),
-            (STRETCH, 4, &new),
-            (STRETCH, 5, &new),
+            (STRETCH, body - 1, &new),
+            (STRETCH, body, &new),
             (MEND, 0, &[]),
         ];
         for (one, other) in calls.into_iter().flat_map(|one| calls.map(|other| (one, other))) {
-            self.given(JUDGE, 0, &packet, &[]);
+            self.given(JUDGE, 0, packet, &[]);
             self.left(one.0, one.1, one.2);
             self.left(other.0, other.1, other.2);
             self.left(JUDGE, 0, &[]);
         }
-        for fault in [Fault::Zero, Fault::MessageSum] {
-            let mut packet = packet.clone();
-            spoil(&mut packet, kind.0, &[fault], &mut self.random);
+        for fault in faults {
+            let mut packet = packet.to_vec();
+            spoil(&mut packet, family, &[*fault], &mut self.random);
             self.given(JUDGE, 0, &packet, &[]);
             for (operation, number, two) in calls {
                 self.left(operation, number, two);
                 self.left(JUDGE, 0, &[]);
             }
-        }
-        for faults in [&[][..], &[Fault::Zero], &[Fault::MessageSum]].repeat(3) {
-            let packet = self.trailing_with(kind, faults);
-            self.edits_in_turn(&packet);
         }
     }
 

@@ -88,7 +88,7 @@ impl Maker {
 
     /// The same with the content of a given packet. Source port, or type and code, balance the message.
     fn filled_up(&mut self, packet: &[u8], place: usize, bytes: &[u8], damage: Damage) -> Vec<u8> {
-        let message = View::new(packet).header_length();
+        let message = View::new(packet).message_start();
         let mut packet = self.with_all_ones(packet, place, bytes, message);
         let field = View::new(&packet).field_place();
         match damage {
@@ -221,7 +221,7 @@ impl Maker {
             let length = self.random.between(2, body);
             let place = self.random.between(0, body - length);
             let old = self.any_full(place, length);
-            let start = View::new(&packet).header_length() + View::new(&packet).body_offset();
+            let start = View::new(&packet).message_start() + View::new(&packet).body_offset();
             let full = self.filled_up(&packet, start + place, &old, damage);
             self.given(JUDGE, 0, &full, &[]);
             self.left(STRETCH, place as u64, &vec![0; length]);

@@ -45,7 +45,7 @@ const STRETCHES: [(&str, Verdict); 11] = [
 impl Cover {
     /// A call on a packet whose UDP header is there.
     pub fn note_datagram(&mut self, case: &Case, before: &View, after: &View, verdict: Verdict) {
-        let there = before.bytes.len() >= before.header_length() + 8 && before.header_length() >= before.least();
+        let there = before.bytes.len() >= before.message_start() + 8 && before.header_length() >= before.least();
         if !there || ![(4, UDP), (6, UDP)].contains(&before.kind()) {
             return;
         }
@@ -98,7 +98,7 @@ impl Cover {
         let (operation, family) = (OPERATIONS[case.operation as usize], before.family);
         let name = format!("{operation} of IPv{family}, a trailing area");
         self.exact.insert(format!("{name}: {verdict}"));
-        let datagram = before.header_length() + before.covered_length();
+        let datagram = before.message_start() + before.covered_length();
         if before.bytes.get(datagram..) != after.bytes.get(datagram..) {
             self.exact.insert(format!("{name}: written"));
         }
