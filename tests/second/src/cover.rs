@@ -388,14 +388,19 @@ fn in_family(rule: &str, family: u8) -> bool {
     match rule {
         "header length" | "total length" | "header sum" | "fragment" | "zero in IPv4" | "blank" => family == 4,
         "zero in IPv6" => family == 6,
+        _ if WALK.contains(&rule) => family == 6,
         _ => true,
     }
 }
+
+/// The rules of the walk. Of these one applies at most; which, the walk decides.
+const WALK: [&str; 5] = ["fragment header", "late hop-by-hop", "ninth header", "past the payload", "segments left"];
 
 /// Whether two rules can apply at once. Without bytes there is nothing else to be wrong but the version and what
 /// the caller gives. The protocols of the later rules are in the table. Only ICMP can be blank.
 fn can_meet(a: &str, b: &str) -> bool {
     match a {
+        _ if WALK.contains(&a) || WALK.contains(&b) => false,
         "no bytes" => ["version", "spent", "side", "address length", "stretch"].contains(&b),
         "protocol" => !["TCP or UDP length", "zero in IPv6", "zero in IPv4", "blank"].contains(&b),
         "TCP or UDP length" => b != "blank",

@@ -220,7 +220,7 @@ pub fn spoil(packet: &mut Vec<u8>, family: u8, faults: &[Fault], random: &mut Ra
 
 fn put_before_sums(packet: &mut [u8], family: u8, fault: Fault, random: &mut Random) {
     let view = View::read_as(packet, family);
-    let (header, message, end) = (view.header_length(), view.message_start(), view.end());
+    let (header, message, end) = (view.header_length(), view.message_start().min(packet.len()), view.end());
     let (lifetime, protocol) = (view.lifetime_place(), view.protocol_place());
     match fault {
         Blank => packet[message..end.max(message)].fill(0),

@@ -3,6 +3,7 @@
 use crate::packet::{View, TCP, UDP};
 use crate::sums::passes;
 use crate::verdict::*;
+use crate::walk::Stop;
 
 /// A rule, asked of a packet by itself.
 pub struct Rule {
@@ -11,8 +12,9 @@ pub struct Rule {
     pub applies: fn(&View) -> bool,
 }
 
+/// In a packet only one of the five rules of the walk applies, so their order here is none: the walk has its own.
 #[rustfmt::skip]
-pub const RULES: [Rule; 14] = [
+pub const RULES: [Rule; 19] = [
     Rule { number: CUT,         name: "no bytes",          applies: |v| v.bytes.is_empty() },
     Rule { number: VERSION,     name: "version",           applies: |v| v.version() != 4 && v.version() != 6 },
     Rule { number: CUT,         name: "under 20 or 40",    applies: |v| v.bytes.len() < v.least() },
@@ -21,6 +23,11 @@ pub const RULES: [Rule; 14] = [
     Rule { number: CUT,         name: "declared",          applies: |v| v.bytes.len() < v.end() },
     Rule { number: HEADER_SUM,  name: "header sum",        applies: |v| v.family == 4 && !passes(v.header()) },
     Rule { number: FRAGMENT,    name: "fragment",          applies: fragment },
+    Rule { number: FRAGMENT,    name: "fragment header",   applies: |v| v.stopped_by(Stop::Fragment) },
+    Rule { number: UNCOVERED,   name: "late hop-by-hop",   applies: |v| v.stopped_by(Stop::Late) },
+    Rule { number: UNCOVERED,   name: "ninth header",      applies: |v| v.stopped_by(Stop::Ninth) },
+    Rule { number: SHAPE,       name: "past the payload",  applies: |v| v.stopped_by(Stop::Reach) },
+    Rule { number: UNCOVERED,   name: "segments left",     applies: |v| v.stopped_by(Stop::SegmentsLeft) },
     Rule { number: UNCOVERED,   name: "protocol",          applies: uncovered },
     Rule { number: SHAPE,       name: "message length",    applies: message_short },
     Rule { number: SHAPE,       name: "TCP or UDP length", applies: length_wrong },

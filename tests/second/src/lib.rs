@@ -16,3 +16,4 @@ pub mod random;
 pub mod sums;
 pub mod updates;
 pub mod verdict;
+pub mod walk;

@@ -1,6 +1,8 @@
 // The layout of IP packets. It is read leniently: a byte that isn't there counts as 0, so that each rule
 // can be asked of each packet by itself.
 
+use crate::walk::{Stop, Walk};
+
 pub const ICMP: u8 = 1;
 pub const TCP: u8 = 6;
 pub const UDP: u8 = 17;
@@ -26,23 +28,28 @@ pub const TABLE: [Row; 4] = [
     Row { protocol: ICMPV6, families: &[6],    fixed: 4,  field: 2,  pseudo: true },
 ];
 
-/// A packet's bytes and the family they are read as.
-#[derive(Clone, Copy)]
+/// A packet's bytes, the family they are read as, and the walk to the message.
+#[derive(Clone)]
 pub struct View<'a> {
     pub bytes: &'a [u8],
     pub family: u8,
+    pub walk: Walk,
 }
 
 impl<'a> View<'a> {
     /// The packet read as the family its version says.
     pub fn new(bytes: &'a [u8]) -> Self {
-        let family = bytes.first().map_or(0, |byte| byte >> 4);
-        View { bytes, family }
+        View::read_as(bytes, bytes.first().map_or(0, |byte| byte >> 4))
     }
 
     /// The packet read as a given family, whatever its version says.
     pub fn read_as(bytes: &'a [u8], family: u8) -> Self {
-        View { bytes, family }
+        let mut view = View { bytes, family, walk: Walk::default() };
+        view.walk = match family {
+            6 => Walk::over(&view, 6, 40),
+            _ => Walk::direct(&view, 9, view.header_length()),
+        };
+        view
     }
 
     pub fn byte(&self, place: usize) -> u8 {
@@ -89,12 +96,24 @@ impl<'a> View<'a> {
         self.by_family(8, 7)
     }
 
+    /// The place of the byte that says the protocol.
     pub fn protocol_place(&self) -> usize {
-        self.by_family(9, 6)
+        self.walk.said_at
     }
 
+    /// The protocol that the walk ends with.
     pub fn protocol(&self) -> u8 {
-        self.byte(self.protocol_place())
+        self.walk.protocol
+    }
+
+    /// What the IP header says of what follows it: the protocol, or the first header between.
+    pub fn first_said(&self) -> u8 {
+        self.byte(self.by_family(9, 6))
+    }
+
+    /// Whether this is what the walk met first.
+    pub fn stopped_by(&self, stop: Stop) -> bool {
+        self.walk.stop() == Some(stop)
     }
 
     /// The family and the protocol.
@@ -124,16 +143,16 @@ impl<'a> View<'a> {
         &self.bytes[..self.header_length().min(self.bytes.len())]
     }
 
-    /// Where the message begins.
+    /// Where the message begins: where the walk ends, or behind the IP header if that isn't at a protocol of the table.
     pub fn message_start(&self) -> usize {
-        self.header_length()
+        self.row().map_or(self.header_length(), |_| self.walk.start)
     }
 
     pub fn message_length(&self) -> usize {
         self.end().saturating_sub(self.message_start())
     }
 
-    /// What lies between its start and the declared end.
+    /// What remains between the walk's end and the declared end.
     pub fn message(&self) -> &'a [u8] {
         let end = self.end().min(self.bytes.len());
         &self.bytes[self.message_start().min(end)..end]

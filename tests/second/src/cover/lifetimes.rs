@@ -29,7 +29,7 @@ impl Cover {
         let (name, lifetime) = (family_name(before.bytes), lifetime_name(before));
         let others: Vec<Named> =
             looked_at(ADDRESS).filter(|rule| (rule.applies)(before)).map(|rule| (rule.name, rule.number)).collect();
-        let first = others.first().map_or("nothing", |rule| rule.0);
+        let first = others.first().map_or("nothing", |rule| if WALK.contains(&rule.0) { "the walk" } else { rule.0 });
         let what = format!("{name}, {first} refused elsewhere, lifetime {lifetime}");
         self.exact.insert(format!("lower lifetime of {what}: {verdict}"));
         for what in descriptions(before) {
@@ -95,7 +95,7 @@ fn changes(before: &View, after: &View) -> String {
 /// What a packet is, as far as the lifetime edit must not care, in all ways of saying it that are wanted.
 fn descriptions(view: &View) -> Vec<String> {
     let (kind, length) = (kind_name(view.kind()), view.message_length());
-    let mut all = vec![format!("protocol {} in IPv{}", view.protocol(), view.family)];
+    let mut all = vec![format!("protocol {} in IPv{}", view.first_said(), view.family)];
     if view.family == 4 && !passes(view.header()) {
         let others = looked_at(ADDRESS).filter(|rule| (rule.applies)(view));
         all.extend(others.map(|rule| format!("{} besides a wrong header sum", rule.name)));
@@ -157,7 +157,9 @@ pub fn wanted_exactly() -> Vec<String> {
     let mut wanted = Vec::new();
     for family in [4, 6] {
         let rules = ["under 20 or 40", "header length", "total length", "declared", "nothing"];
-        for rule in rules.into_iter().chain(PASSED_OVER.map(|rule| rule.0)).filter(|rule| in_family(rule, family)) {
+        let walk = (family == 6).then_some("the walk");
+        let passed_over = PASSED_OVER.map(|rule| rule.0).into_iter().chain(walk);
+        for rule in rules.into_iter().chain(passed_over).filter(|rule| in_family(rule, family)) {
             for lifetime in LIFETIMES.into_iter().chain(["another"]) {
                 let verdict = answer(rule, lifetime);
                 let what = format!("IPv{family}, {rule} refused elsewhere, lifetime {lifetime}");
@@ -169,7 +171,7 @@ pub fn wanted_exactly() -> Vec<String> {
     wanted.push("lower lifetime of IPv6 changes the lifetime to one less".to_string());
     let kept = |family: u8| move |v: Verdict| format!("lower lifetime of IPv{family}, verdict {v}: {v} afterwards");
     wanted.extend([GOOD, UNSUMMED, SHAPE, HEADER_SUM, FRAGMENT, UNCOVERED, MESSAGE_SUM].map(kept(4)));
-    wanted.extend([GOOD, SHAPE, UNCOVERED, MISSING, MESSAGE_SUM].map(kept(6)));
+    wanted.extend([GOOD, SHAPE, FRAGMENT, UNCOVERED, MISSING, MESSAGE_SUM].map(kept(6)));
     for protocol in [ICMP, TCP, UDP, ICMPV6, 0] {
         let verdicts: &[Verdict] = match protocol {
             UDP => &[GOOD, UNSUMMED, SHAPE, FRAGMENT, MESSAGE_SUM],

@@ -43,10 +43,10 @@ const STRETCHES: [(&str, Verdict); 11] = [
 ];
 
 impl Cover {
-    /// A call on a packet whose UDP header is there.
+    /// A call on a packet whose UDP header is there, and that nothing stops on the way to it.
     pub fn note_datagram(&mut self, case: &Case, before: &View, after: &View, verdict: Verdict) {
         let there = before.bytes.len() >= before.message_start() + 8 && before.header_length() >= before.least();
-        if !there || ![(4, UDP), (6, UDP)].contains(&before.kind()) {
+        if !there || before.walk.stop().is_some() || ![(4, UDP), (6, UDP)].contains(&before.kind()) {
             return;
         }
         self.note_udp_length(case, before, verdict);
