@@ -1,9 +1,11 @@
 // The generator: the stored cases, whose coverage is checked, and fresh random ones without end.
 
+pub mod between;
 mod captures;
 mod corners;
 mod lifetimes;
 mod packets;
+pub mod stops;
 mod sums;
 mod trailing;
 mod zeros;
@@ -21,7 +23,8 @@ struct Maker {
     count: u64,
     desk: Desk,
     cover: Option<Cover>,
-    /// What shapes are drawn. In the older stored cases none has a trailing area: they stay the same bytes.
+    /// What shapes are drawn. Those of older stored cases have no trailing area, or nothing between: they stay the same
+    /// bytes.
     shapes: fn((u8, u8), usize, &mut Random) -> Shape,
 }
 
@@ -84,8 +87,10 @@ pub fn stored(seed: u64) -> Result<(Vec<u8>, u64), String> {
     maker.long_chains();
     maker.zeros();
     maker.lifetimes_of_any();
-    maker.shapes = Shape::any;
+    maker.shapes = Shape::any_direct;
     maker.trailing_areas();
+    maker.headers_between();
+    maker.stopped_walks();
     if let Some(cover) = &maker.cover {
         cover.check()?;
     }
@@ -96,7 +101,7 @@ pub fn stored(seed: u64) -> Result<(Vec<u8>, u64), String> {
 pub fn fuzz(seed: u64, count: u64, out: &mut impl Write) -> io::Result<()> {
     let mut maker = Maker::new(seed, None);
     while maker.count < count {
-        match maker.random.between(1, 68) {
+        match maker.random.between(1, 78) {
             1 => maker.any_corner(),
             2 => maker.any_blank(),
             3..=7 => maker.any_sums(),
@@ -109,6 +114,7 @@ pub fn fuzz(seed: u64, count: u64, out: &mut impl Write) -> io::Result<()> {
             37..=38 => maker.any_zeros(),
             39..=46 => maker.any_lifetimes(),
             47..=54 => maker.any_trailing(),
+            55..=66 => maker.any_between(),
             _ => maker.any_faults(),
         }
         out.write_all(&maker.bytes)?;

@@ -1,5 +1,6 @@
 // What the stored cases must reach, and the check that they do. Each thing reached is a line of plain words.
 
+mod between;
 mod lifetimes;
 mod trailing;
 
@@ -18,8 +19,8 @@ use std::collections::BTreeSet;
 #[derive(Default)]
 pub struct Cover {
     /// The verdicts of each operation, what an edit makes of the fields that it updates and of the verdict, what the
-    /// lifetime edit changes, and what lies behind a datagram; these must be those the paper makes possible, and no
-    /// others.
+    /// lifetime edit changes, what lies behind a datagram, and what stops the walk; these must be those the paper makes
+    /// possible, and no others.
     exact: BTreeSet<String>,
     /// All else that was reached; there may be more than is wanted.
     reached: BTreeSet<String>,
@@ -88,6 +89,7 @@ impl Cover {
             self.reach(format!("{}'s {its_verdict}, then {operation}: {verdict}", OPERATIONS[before as usize]));
         }
         self.note_datagram(case, &view, &View::new(after), verdict);
+        self.note_between(case, &view, &View::new(after), verdict);
         self.last = Some((case.operation, verdict));
         if verdict != GOOD && before != after {
             self.exact.insert(format!("{operation} refused with {verdict}: bytes changed"));
@@ -244,6 +246,9 @@ impl Cover {
                 if View::new(record).trailing_length() > 0 {
                     self.reach(format!("record with a trailing area: {}", judge(record)));
                 }
+                if !View::new(record).walk.headers.is_empty() {
+                    self.reach(format!("record with headers between: {}", judge(record)));
+                }
             }
         }
     }
@@ -397,10 +402,12 @@ fn in_family(rule: &str, family: u8) -> bool {
 const WALK: [&str; 5] = ["fragment header", "late hop-by-hop", "ninth header", "past the payload", "segments left"];
 
 /// Whether two rules can apply at once. Without bytes there is nothing else to be wrong but the version and what
-/// the caller gives. The protocols of the later rules are in the table. Only ICMP can be blank.
+/// the caller gives, and without a whole fixed header nothing behind it. The protocols of the later rules are in the
+/// table. Only ICMP can be blank.
 fn can_meet(a: &str, b: &str) -> bool {
     match a {
-        _ if WALK.contains(&a) || WALK.contains(&b) => false,
+        _ if WALK.contains(&a) && WALK.contains(&b) => false,
+        "under 20 or 40" => !["late hop-by-hop", "ninth header", "segments left"].contains(&b),
         "no bytes" => ["version", "spent", "side", "address length", "stretch"].contains(&b),
         "protocol" => !["TCP or UDP length", "zero in IPv6", "zero in IPv4", "blank"].contains(&b),
         "TCP or UDP length" => b != "blank",
@@ -431,6 +438,7 @@ fn wanted_exactly() -> BTreeSet<String> {
     wanted.extend(together.map(|(lengths, number)| format!("join, lengths together {lengths}: {number}")));
     wanted.extend(lifetimes::wanted_exactly());
     wanted.extend(trailing::wanted_exactly());
+    wanted.extend(between::wanted_exactly());
     for operation in [ADDRESS, STRETCH] {
         let name = OPERATIONS[operation as usize];
         for (family, verdicts) in [(4, &[GOOD, UNSUMMED, HEADER_SUM, MESSAGE_SUM][..]), (6, &[GOOD, MESSAGE_SUM])] {
@@ -474,6 +482,7 @@ fn wanted_else() -> BTreeSet<String> {
     wanted.extend(wanted_edits());
     wanted.extend(lifetimes::wanted());
     wanted.extend(trailing::wanted());
+    wanted.extend(between::wanted());
     wanted.extend(wanted_captures());
     wanted.extend(wanted_sums());
     wanted
@@ -517,8 +526,7 @@ fn wanted_lengths() -> Vec<String> {
             let verdicts: &[Verdict] = match (operation, family) {
                 (LIFETIME, 4) => &[GOOD, CUT, SHAPE, SPENT],
                 (LIFETIME, _) => &[GOOD, CUT, SPENT],
-                (_, 4) => &[CUT, SHAPE, FRAGMENT, UNCOVERED],
-                _ => &[CUT, SHAPE, UNCOVERED],
+                _ => &[CUT, SHAPE, FRAGMENT, UNCOVERED],
             };
             let name = OPERATIONS[operation as usize];
             let least = |verdict| format!("{name} of IPv{family}: just the least bytes, verdict {verdict}");

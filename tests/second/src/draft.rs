@@ -1,10 +1,12 @@
 // Packets for the cases: good ones of any shape, and faults put into them.
 
+use crate::between::{put_between, Link};
 use crate::mend::{computed_message_field, fresh_header_field, fresh_message_field, write_field};
 use crate::mistakes::WHOLE_MESSAGE;
 use crate::packet::{View, HEADER_FIELD, ICMP, ICMPV6, TABLE, TCP, UDP};
 use crate::random::Random;
 use crate::sums::Field;
+use crate::walk::{HOP_BY_HOP, MOST, OPTIONS, ROUTING};
 
 /// Every family with its protocols.
 pub const KINDS: [(u8, u8); 6] = [(4, ICMP), (4, TCP), (4, UDP), (6, TCP), (6, UDP), (6, ICMPV6)];
@@ -16,12 +18,24 @@ pub const UNCOVERED_KINDS: [(u8, u8); 18] = [
     (6, 0), (6, ICMP), (6, 43), (6, 44), (6, 50), (6, 51), (6, 59), (6, 60), (6, 135), (6, 255),
 ];
 
+/// The headers between of a shape: of each its number and its length in 8-byte units beyond the first 8 bytes.
+pub type Between = [Option<(u8, u8)>; MOST];
+
+/// These headers between.
+pub fn between(headers: &[(u8, u8)]) -> Between {
+    let mut all = [None; MOST];
+    all.iter_mut().zip(headers).for_each(|(place, header)| *place = Some(*header));
+    all
+}
+
 /// What a good packet looks like: lengths in bytes, the IPv4 header length and TCP's data offset in words.
 #[derive(Clone, Copy)]
 pub struct Shape {
     pub family: u8,
     pub protocol: u8,
     pub words: usize,
+    /// Of IPv6 alone.
+    pub between: Between,
     pub offset: usize,
     pub body: usize,
     /// Behind UDP's datagram, before the declared end.
@@ -31,13 +45,28 @@ pub struct Shape {
 }
 
 impl Shape {
-    /// No options, no trailing area and no tail.
+    /// No options, no headers between, no trailing area and no tail.
     pub fn plain((family, protocol): (u8, u8), body: usize) -> Self {
-        Shape { family, protocol, words: 5, offset: 5, body, trailing: 0, tail: 0 }
+        Shape { family, protocol, words: 5, between: between(&[]), offset: 5, body, trailing: 0, tail: 0 }
     }
 
-    /// Perhaps options, perhaps a tail, and for UDP perhaps a trailing area.
+    /// Perhaps options, perhaps a tail, for UDP perhaps a trailing area, and for IPv6 perhaps headers between.
     pub fn any(kind: (u8, u8), body: usize, random: &mut Random) -> Self {
+        let shape = Shape::any_direct(kind, body, random);
+        if random.once_in(2) {
+            shape.behind_any(random)
+        } else {
+            shape
+        }
+    }
+
+    /// Like any, with headers between in IPv6.
+    pub fn any_behind(kind: (u8, u8), body: usize, random: &mut Random) -> Self {
+        Shape::any_direct(kind, body, random).behind_any(random)
+    }
+
+    /// Perhaps options, perhaps a tail, and for UDP perhaps a trailing area; the message follows the IP header.
+    pub fn any_direct(kind: (u8, u8), body: usize, random: &mut Random) -> Self {
         let mut shape = Shape::any_whole(kind, body, random);
         if kind.1 == UDP && random.once_in(2) {
             shape.trailing = random.between(1, 40);
@@ -60,10 +89,31 @@ impl Shape {
         shape
     }
 
+    /// The same behind one to eight headers between, if it is IPv6; long ones are rare.
+    fn behind_any(mut self, random: &mut Random) -> Self {
+        let most = random.pick(&[1, 2, 3, MOST]);
+        let count = if self.family == 6 { random.between(1, most) } else { 0 };
+        for (i, header) in self.between[..count].iter_mut().enumerate() {
+            let units = random.pick(&[0, 0, 0, 1, 2, 4]);
+            let long = random.pick(&[100, 254, 255]);
+            let number = match random.between(0, 3) {
+                0 | 1 if i == 0 => HOP_BY_HOP,
+                0 | 2 => ROUTING,
+                _ => OPTIONS,
+            };
+            *header = Some((number, if random.once_in(100) { long } else { units }));
+        }
+        self
+    }
+
     /// The bytes of the headers in this shape.
     pub fn headers(&self) -> usize {
         let header = if self.family == 4 { 4 * self.words } else { 40 };
-        header + self.before_body()
+        header + self.length_between() + self.before_body()
+    }
+
+    fn length_between(&self) -> usize {
+        self.between.iter().flatten().map(|(_, units)| 8 + 8 * usize::from(*units)).sum()
     }
 
     fn before_body(&self) -> usize {
@@ -90,6 +140,9 @@ impl Shape {
             _ => {}
         }
         refresh(&mut packet, self.family);
+        let links: Vec<Link> =
+            self.between.into_iter().flatten().map(|(number, units)| Link::of(number, units, random)).collect();
+        put_between(&mut packet, &links);
         packet
     }
 

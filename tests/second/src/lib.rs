@@ -2,6 +2,7 @@
 // It makes the stored cases, answers them, and holds other answers to its own.
 
 pub mod answer;
+pub mod between;
 pub mod blocks;
 pub mod capture;
 pub mod cases;

@@ -2,8 +2,8 @@
 
 use second::answer::{Case, Desk, Next, ADDRESS, JUDGE, LEFT, LIFETIME, MEND, STRETCH};
 use second::cases;
-use second::judge::judge;
-use second::mistakes::MISTAKES;
+use second::judge::{first, judge};
+use second::mistakes::{at_40, BETWEEN_MISTAKES, MISTAKES};
 use second::packet::View;
 use second::updates::updated_fields;
 use std::collections::BTreeMap;
@@ -114,7 +114,7 @@ fn fuzz_reaches_lifetimes_of_packets_that_the_other_edits_refuse() {
 #[test]
 fn fuzz_reaches_trailing_areas() {
     let mut bytes = Vec::new();
-    cases::fuzz(9, 60_000, &mut bytes).unwrap();
+    cases::fuzz(9, 120_000, &mut bytes).unwrap();
     let (mut input, mut desk, mut met, mut mistaken) = (&bytes[..], Desk::default(), BTreeMap::new(), BTreeMap::new());
     while let Next::Case(case) = Case::read(&mut input).unwrap() {
         desk.lay(&case);
@@ -141,6 +141,53 @@ fn fuzz_reaches_trailing_areas() {
         }
     }
     assert!(mistaken.len() == 10 && mistaken.values().all(|count| *count >= 10), "{mistaken:?}");
+}
+
+/// Messages of each protocol behind one to eight headers, each call done and refused; each that stops the walk, in every
+/// call; every two of them, in one header and in two; and sums that a mistake about the headers finds right.
+#[test]
+fn fuzz_reaches_headers_between() {
+    let mut bytes = Vec::new();
+    cases::fuzz(9, 120_000, &mut bytes).unwrap();
+    let (mut input, mut desk) = (&bytes[..], Desk::default());
+    let (mut walked, mut called, mut stopped) = (BTreeMap::new(), BTreeMap::new(), BTreeMap::new());
+    let (mut in_one, mut in_two, mut mistaken) = (BTreeMap::new(), BTreeMap::new(), BTreeMap::new());
+    while let Next::Case(case) = Case::read(&mut input).unwrap() {
+        desk.lay(&case);
+        let before = desk.buffer.clone();
+        let (view, answer) = (View::new(&before), desk.answer(&case));
+        if case.operation > STRETCH || view.walk.headers.is_empty() || before.len() < view.end().max(40) {
+            continue;
+        }
+        let verdict: u8 = answer.trim_end().split(' ').next().unwrap().parse().unwrap();
+        let headers = &view.walk.headers;
+        if let Some(at) = headers.iter().position(|header| !header.stops.is_empty()) {
+            let (stop, others) = headers[at].stops.split_first().unwrap();
+            *stopped.entry((case.operation, *stop)).or_insert(0) += 1;
+            others.iter().for_each(|other| *in_one.entry((*stop, *other)).or_insert(0) += 1);
+            let later = headers[at + 1..].iter().flat_map(|header| &header.stops);
+            later.for_each(|other| *in_two.entry((*stop, *other)).or_insert(0) += 1);
+            continue;
+        }
+        *called.entry((case.operation, verdict)).or_insert(0) += 1;
+        if (case.operation, verdict) == (JUDGE, 0) {
+            *walked.entry((view.protocol(), headers.len())).or_insert(0) += 1;
+        }
+        if (case.operation, verdict) == (JUDGE, 9) {
+            let wrong = BETWEEN_MISTAKES.iter().map(|mistake| mistake.passes(&view));
+            let wrong = wrong.chain([first(&at_40(&view), |_| true).is_none()]);
+            wrong.enumerate().filter(|(_, passes)| *passes).for_each(|(i, _)| *mistaken.entry(i).or_insert(0) += 1);
+        }
+    }
+    assert!(walked.len() == 24 && walked.values().all(|count| *count >= 10), "{walked:?}");
+    let calls = [(JUDGE, &[0, 4, 7, 8, 9][..]), (MEND, &[0, 4, 7]), (LIFETIME, &[0, 11])];
+    for (operation, verdicts) in calls.into_iter().chain([ADDRESS, STRETCH].map(|op| (op, &[0, 4, 7, 8, 10][..]))) {
+        assert!(verdicts.iter().all(|verdict| called[&(operation, *verdict)] >= 50), "{operation}: {called:?}");
+    }
+    assert!(stopped.len() == 25 && stopped.values().all(|count| *count >= 50), "{stopped:?}");
+    assert!(in_one.len() == 7 && in_one.values().all(|count| *count >= 10), "{in_one:?}");
+    assert!(in_two.len() == 24 && in_two.values().all(|count| *count >= 10), "{in_two:?}");
+    assert!(mistaken.len() == 6 && mistaken.values().all(|count| *count >= 10), "{mistaken:?}");
 }
 
 #[test]

@@ -8,8 +8,13 @@ use crate::draft::UNCOVERED_KINDS;
 const LIFETIMES: [&str; 4] = ["0", "1", "2", "255"];
 
 /// What the other edits refuse and this one doesn't look at.
-const PASSED_OVER: [Named; 5] = [
+const PASSED_OVER: [Named; 10] = [
     ("fragment", FRAGMENT),
+    ("fragment header", FRAGMENT),
+    ("late hop-by-hop", UNCOVERED),
+    ("ninth header", UNCOVERED),
+    ("past the payload", SHAPE),
+    ("segments left", UNCOVERED),
     ("protocol", UNCOVERED),
     ("message length", SHAPE),
     ("TCP or UDP length", SHAPE),
@@ -29,7 +34,7 @@ impl Cover {
         let (name, lifetime) = (family_name(before.bytes), lifetime_name(before));
         let others: Vec<Named> =
             looked_at(ADDRESS).filter(|rule| (rule.applies)(before)).map(|rule| (rule.name, rule.number)).collect();
-        let first = others.first().map_or("nothing", |rule| if WALK.contains(&rule.0) { "the walk" } else { rule.0 });
+        let first = others.first().map_or("nothing", |rule| rule.0);
         let what = format!("{name}, {first} refused elsewhere, lifetime {lifetime}");
         self.exact.insert(format!("lower lifetime of {what}: {verdict}"));
         for what in descriptions(before) {
@@ -157,9 +162,7 @@ pub fn wanted_exactly() -> Vec<String> {
     let mut wanted = Vec::new();
     for family in [4, 6] {
         let rules = ["under 20 or 40", "header length", "total length", "declared", "nothing"];
-        let walk = (family == 6).then_some("the walk");
-        let passed_over = PASSED_OVER.map(|rule| rule.0).into_iter().chain(walk);
-        for rule in rules.into_iter().chain(passed_over).filter(|rule| in_family(rule, family)) {
+        for rule in rules.into_iter().chain(PASSED_OVER.map(|rule| rule.0)).filter(|rule| in_family(rule, family)) {
             for lifetime in LIFETIMES.into_iter().chain(["another"]) {
                 let verdict = answer(rule, lifetime);
                 let what = format!("IPv{family}, {rule} refused elsewhere, lifetime {lifetime}");

@@ -15,7 +15,7 @@ const LONGEST: usize = 40;
 const ENDS: [(&str, &str); 4] = [("even", "a tail"), ("even", "no tail"), ("odd", "a tail"), ("odd", "no tail")];
 
 /// UDP lengths by name, and whether they fit.
-const LENGTHS: [(&str, bool); 9] = [
+pub const LENGTHS: [(&str, bool); 9] = [
     ("0", false),
     ("below 8", false),
     ("7", false),
@@ -163,7 +163,7 @@ impl Cover {
 }
 
 /// Whether a packet's UDP length has this name. One can have two: in a message of 8 bytes 8 is the message's.
-fn has_length(view: &View, name: &str) -> bool {
+pub fn has_length(view: &View, name: &str) -> bool {
     let (length, message) = (view.udp_length(), view.message_length());
     match name {
         "0" => length == 0,
@@ -179,7 +179,7 @@ fn has_length(view: &View, name: &str) -> bool {
 }
 
 /// Whether there is a tail behind the declared end.
-fn tail_name(view: &View) -> &'static str {
+pub fn tail_name(view: &View) -> &'static str {
     if view.bytes.len() > view.end() {
         "a tail"
     } else {
