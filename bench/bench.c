@@ -1,4 +1,5 @@
-/* Measures the library beside the ways of ways.c and same.c, on UDP packets, and a lifetime also on fragments.
+/* Measures the library beside the ways of ways.c and same.c, on UDP packets, over IPv6 also behind another header, and
+ * a lifetime also on fragments.
  *
  *     bench calls        calls each once, between begin() and end(), and prints a line for each call:
  *                        what an emulator's trace is counted by
@@ -52,9 +53,11 @@ enum { WAYS = sizeof ways / sizeof *ways };
 static const size_t lengths[] = {40, 64, 128, 576, 1500}, lifetimes[] = {64, 128, 576, 1500, 9000, 60000};
 static const uint8_t new[16] = {0xFD, 0x12, 0x34, 0x56, 0x78, 0x9A, 0xBC, 0xDE, 0xF0, 1, 2, 3, 4, 5, 6, 7};
 
-/* What a call is given; a sum takes any bytes. A fragment is one from the middle of a datagram. */
-enum packet { IPV4, IPV6, FRAGMENT4, FRAGMENT6, PACKETS };
-static const char *const packets[PACKETS] = {"IPv4", "IPv6", "IPv4 fragment", "IPv6 fragment"};
+/* What a call is given; a sum takes any bytes. A fragment is one from the middle of a datagram. The last has a
+ * hop-by-hop header of 8 bytes between, and so as much message as IPv6 without it has in 8 bytes less. */
+enum packet { IPV4, IPV6, FRAGMENT4, FRAGMENT6, HOP_BY_HOP, PACKETS };
+enum { BETWEEN = 8 };
+static const char *const packets[PACKETS] = {"IPv4", "IPv6", "IPv4 fragment", "IPv6 fragment", "IPv6 hop-by-hop"};
 
 /* Calls that are looked at more closely. */
 struct row {
@@ -125,7 +128,8 @@ static void put(uint8_t *at, size_t value)
     at[1] = (uint8_t)value;
 }
 
-/* Makes a fragment of a good packet. The judge says 6 of it where the header's sum is still right, and 7 over IPv6. */
+/* Makes a fragment of a good packet. The judge says 6 of it where an IPv4 header's sum is still right; of IPv6 a
+ * library of before says 7. */
 static int split(uint8_t *packet, size_t len, int four)
 {
     enum { MIDDLE = 0x2000 + 64 / 8 };
@@ -136,14 +140,26 @@ static int split(uint8_t *packet, size_t len, int four)
     } else {
         packet[6] = 44;
     }
-    return hifrostum_judge(packet, len) == (four ? HIFROSTUM_FRAGMENT : HIFROSTUM_UNCOVERED);
+    uint8_t verdict = hifrostum_judge(packet, len);
+    return verdict == HIFROSTUM_FRAGMENT || (!four && verdict == HIFROSTUM_UNCOVERED);
+}
+
+/* Puts a hop-by-hop header of padding between, which leaves a good packet good: no sum covers it. */
+static void insert(uint8_t *packet, size_t len)
+{
+    uint8_t padding[BETWEEN] = {packet[6], 0, 1, 4};
+    memmove(packet + 40 + BETWEEN, packet + 40, len - 40);
+    memcpy(packet + 40, padding, BETWEEN);
+    packet[6] = 0;
+    put(packet + 4, len - 40 + BETWEEN);
 }
 
 /* Builds a good packet, whose lifetime lasts for a batch, or a fragment with a right header. */
 static void build(uint8_t *packet, enum packet kind, size_t len)
 {
-    int four = kind == IPV4 || kind == FRAGMENT4;
+    int four = kind == IPV4 || kind == FRAGMENT4, fragment = kind == FRAGMENT4 || kind == FRAGMENT6;
     size_t start = four ? 20 : 40;
+    len -= kind == HOP_BY_HOP ? BETWEEN : 0;
     for (size_t i = 0; i < len; i++)
         packet[i] = (uint8_t)(i * 73 + 5);
     packet[0] = four ? 0x45 : 0x65;
@@ -155,14 +171,16 @@ static void build(uint8_t *packet, enum packet kind, size_t len)
     put(packet + start + 4, len - start);
     put(packet + start + 6, 1);
     if (hifrostum_mend(packet, len) != 0 || hifrostum_judge(packet, len) != 0 ||
-        (kind >= FRAGMENT4 && !split(packet, len, four))) {
+        (fragment && !split(packet, len, four))) {
         fprintf(stderr, "bench: no good packet of %zu bytes\n", len);
         exit(1);
     }
+    if (kind == HOP_BY_HOP)
+        insert(packet, len);
 }
 
 /* Stops unless a way answers and writes what the library does. Answers 0 if that refuses, as a library of before does a
- * fragment: then there is nothing to measure. */
+ * fragment or headers between: then there is nothing to measure. */
 static int compare(const struct way *way, enum operation op, const uint8_t *packet, size_t len)
 {
     static uint8_t want[LONGEST], got[LONGEST];
@@ -250,12 +268,12 @@ static void measure(int calls, struct row r, size_t first)
         timed(r, packet);
 }
 
-/* A sum has no family, UDP over IPv6 has more than 40 bytes, and of fragments only a lifetime is edited. */
+/* UDP has bytes behind its IP header, a sum has no family, and of fragments only a lifetime is edited. */
 static int possible(struct row r)
 {
-    if (r.packet == IPV4)
-        return 1;
-    return r.op > CHAIN && (r.packet == FRAGMENT4 || r.len > 40) && (r.packet == IPV6 || r.op == LOWER);
+    size_t header = r.packet == IPV4 || r.packet == FRAGMENT4 ? 20 : r.packet == HOP_BY_HOP ? 40 + BETWEEN : 40;
+    int fragment = r.packet == FRAGMENT4 || r.packet == FRAGMENT6;
+    return r.len > header && (r.op > CHAIN || r.packet == IPV4) && (!fragment || r.op == LOWER);
 }
 
 static void measure_all(int calls)
@@ -263,7 +281,7 @@ static void measure_all(int calls)
     for (enum operation op = 0; op < OPERATIONS; op++)
         for (enum packet packet = 0; packet < PACKETS; packet++)
             for (size_t i = 0; i < sizeof lengths / sizeof *lengths; i++) {
-                struct row r = {op, packet, lengths[i]};
+                struct row r = {op, packet, lengths[i] + (packet == HOP_BY_HOP ? BETWEEN : 0)};
                 if (possible(r))
                     measure(calls, r, WAYS);
             }

@@ -1,13 +1,13 @@
-/* Holds one way to another on random packets: all protocols, families, options, fragments, tails behind the packet and
- * behind UDP's datagram, corner fields, all lengths, and every refusal. Most packets are built right and then damaged a
- * little or not at all, so that each test decides often. */
+/* Holds one way to another on random packets: all protocols, families, options, headers between, fragments, tails
+ * behind the packet and behind UDP's datagram, corner fields, all lengths, and every refusal. Most packets are built
+ * right and then damaged a little or not at all, so that each test decides often. */
 #include <stdio.h>
 #include <stdlib.h>
 #include <string.h>
 
 #include "ways.h"
 
-enum { ROOM = 2048, GUARD = 16 };
+enum { ROOM = 2048, GUARD = 16, MOST = 8 };
 
 static uint64_t state;
 
@@ -58,24 +58,52 @@ static void settle(const struct way *ours, uint8_t *p, size_t header, size_t fie
     put(last, (word(last) + word(fresh + field) + 65535 - word(p + field)) % 65535);
 }
 
-/* Builds a packet and answers its length. Its fields are fresh, or corners. *tail is how much follows a UDP datagram
- * inside it. */
-static size_t build(const struct way *ours, uint8_t *p, size_t *tail)
+/* How a packet was built: where its message begins and how much follows a UDP datagram inside it, and where its headers
+ * between begin. */
+struct built {
+    size_t message, tail, headers, at[MOST];
+};
+
+/* Puts headers between IPv6's fixed header and a message of this protocol, mostly few and short. */
+static void lead(uint8_t *p, uint8_t protocol, struct built *b)
+{
+    uint8_t *next = p + 6;
+    b->message = 40;
+    b->headers = below(3) == 0 ? 0 : below(4) == 0 ? MOST : 1 + below(3);
+    for (size_t i = 0; i < b->headers; i++) {
+        uint8_t *header = p + b->message;
+        *next = (uint8_t)(i == 0 && below(2) ? 0 : below(2) ? 43 : 60);
+        header[1] = (uint8_t)(below(6) ? below(3) : below(10));
+        if (*next == 43)
+            header[3] = 0;
+        next = header;
+        b->at[i] = b->message;
+        b->message += 8 + 8u * header[1];
+    }
+    *next = protocol;
+}
+
+/* Builds a packet and answers its length. Its fields are fresh, or corners. */
+static size_t build(const struct way *ours, uint8_t *p, struct built *b)
 {
     static const struct {
         uint8_t protocol, fixed, field, four, six;
     } kinds[] = {{1, 8, 2, 1, 0}, {6, 20, 16, 1, 1}, {17, 8, 6, 1, 1}, {58, 4, 2, 0, 1}};
     size_t k = below(4), four = kinds[k].four && (!kinds[k].six || below(2));
-    size_t header = four ? (below(3) ? 20 : 20 + 4 * below(11)) : 40, field = header + kinds[k].field;
-    size_t extra = below(4) == 0 ? below(1500) : below(140), end = header + kinds[k].fixed + extra;
-    *tail = kinds[k].protocol == 17 && below(2) ? below(below(2) ? extra + 1 : extra % 16 + 1) : 0;
-    size_t covered = end - header - *tail;
     fill(p, ROOM);
+    *b = (struct built){below(3) ? 20 : 20 + 4 * below(11), 0, 0, {0}};
+    if (!four)
+        lead(p, kinds[k].protocol, b);
+    size_t header = b->message, field = header + kinds[k].field;
+    size_t extra = below(4) == 0 ? below(1540 - header) : below(140), end = header + kinds[k].fixed + extra;
+    b->tail = kinds[k].protocol == 17 && below(2) ? below(below(2) ? extra + 1 : extra % 16 + 1) : 0;
+    size_t covered = end - header - b->tail;
     p[0] = (uint8_t)(four ? 64 + header / 4 : 96 + below(16));
-    put(p + (four ? 2 : 4), four ? end : end - header);
-    if (four)
+    put(p + (four ? 2 : 4), four ? end : end - 40);
+    if (four) {
         put(p + 6, below(2) ? 0x4000 : 0x8000 * below(2));
-    p[four ? 9 : 6] = kinds[k].protocol;
+        p[9] = kinds[k].protocol;
+    }
     if (below(8) == 0)
         p[four ? 8 : 7] = (uint8_t)below(3);
     if (kinds[k].protocol == 6)
@@ -83,13 +111,33 @@ static size_t build(const struct way *ours, uint8_t *p, size_t *tail)
     if (kinds[k].protocol == 17)
         put(p + header + 4, covered);
     ours->mend(p, end);
-    if (extra - *tail >= 4 && below(4) == 0)
+    if (extra - b->tail >= 4 && below(4) == 0)
         settle(ours, p, header, field, covered, end);
     else if (below(3) == 0)
         put(p + field, corner());
+    else if (kinds[k].protocol == 17 && below(4) == 0)
+        put(p + field, 0);
     if (four && below(6) == 0)
         put(p + 10, corner());
     return end + (below(4) ? 0 : below(20));
+}
+
+/* Makes a walk stumble, or end elsewhere: one of the headers between names another next, says another length, beside
+ * the payload's end or any, or has segments left; or the payload ends among them. */
+static void stumble(uint8_t *p, const struct built *b)
+{
+    static const uint8_t others[] = {0, 43, 44, 60, 6, 17, 58, 59};
+    size_t end = 40 + word(p + 4), i = below(b->headers);
+    uint8_t *header = p + b->at[i], *last = p + b->at[b->headers - 1];
+    switch (below(7)) {
+    case 0: *header = others[below(8)]; break;
+    case 1: *header = (uint8_t)below(256); break;
+    case 2: *last = others[below(4)]; break;
+    case 3: header[1] = (uint8_t)((end - b->at[i]) / 8 + below(3) - 2); break;
+    case 4: header[1] = (uint8_t)below(256); break;
+    case 5: header[3] = (uint8_t)below(4); break;
+    default: put(p + 4, below(b->message + 4 - 40)); break;
+    }
 }
 
 /* Sets the IPv4 header's field fresh, whatever the header says: behind a wrong header sum a judge sees nothing. */
@@ -104,10 +152,10 @@ static void seal(uint8_t *p)
 
 /* Damages a packet: one of the places that a test looks at, or any byte; or its length; or what UDP says of its own, to
  * one beside 8 or beside the packet's end. */
-static size_t damage(uint8_t *p, size_t len)
+static size_t damage(uint8_t *p, size_t len, const struct built *b)
 {
     static const uint8_t places[] = {0, 2, 3, 4, 5, 6, 7, 8, 9, 10, 12, 24, 25, 32, 44, 45};
-    size_t header = p[0] >> 4 == 4 ? 4u * (p[0] & 15) : 40;
+    size_t header = b->message;
     switch (below(9)) {
     case 0: return below(len + 1);
     case 1: return below(64);
@@ -168,19 +216,31 @@ static void show(const struct call *c, const uint8_t *packet, unsigned ours, uns
         fprintf(stderr, "%02X%s", packet[i], i % 32 == 31 || i + 1 == c->len ? "\n" : " ");
 }
 
+/* Sorts of packets whose verdicts are counted: all; of those that weren't damaged, the ones with a tail inside, and
+ * with headers between, where TCP's data offset may still be too large; and those whose walk alone was made to
+ * stumble. */
+enum { SORTS = 4 };
+static const char *const sorts[SORTS] = {
+    "", ", with a tail in the packet", ", with headers between", ", with a header between changed",
+};
+
 unsigned long differ(const struct way *ours, const char *by, const struct way *way, uint64_t seed,
                      unsigned long packets)
 {
     static uint8_t packet[ROOM + GUARD], want[ROOM + GUARD], got[ROOM + GUARD];
     static struct call c;
-    unsigned long calls = 0, seen[2][6][13] = {{{0}}};
+    unsigned long calls = 0, seen[SORTS][6][13] = {{{0}}};
     state = seed * 0x9E3779B97F4A7C15 + 1;
     for (unsigned long i = 0; i < packets; i++) {
-        size_t tail, times = below(4);
-        c.len = build(ours, packet, &tail);
-        int right = tail > 0 && times < 2;
+        struct built b;
+        c.len = build(ours, packet, &b);
+        size_t times = below(4), stumbles = b.headers > 0 && below(2);
+        int right = times < 2 && !stumbles;
+        int is[SORTS] = {1, right && b.tail > 0, right && b.headers > 0, times < 2 && stumbles};
+        if (stumbles)
+            stumble(packet, &b);
         for (; times > 1; times--)
-            c.len = damage(packet, c.len);
+            c.len = damage(packet, c.len, &b);
         if (packet[0] >> 4 == 4 && below(3) == 0)
             seal(packet);
         for (c.op = 0; c.op < 6; c.op++) {
@@ -193,21 +253,20 @@ unsigned long differ(const struct way *ours, const char *by, const struct way *w
                 show(&c, packet, a, b);
                 exit(1);
             }
-            if (c.op > 0 && a < 13) {
-                seen[0][c.op][a]++;
-                seen[1][c.op][a] += right;
-            }
+            for (int sort = 0; sort < SORTS && c.op > 0 && a < 13; sort++)
+                seen[sort][c.op][a] += (unsigned)is[sort];
             calls++;
         }
     }
-    /* every verdict that a call has must have been met; and of packets of the right shape with a tail inside every one
-     * that it has for these, and no other */
-    static const unsigned possible[2][6] = {{0, 0x3FF, 0xDD, 0x81D, 0x5DD, 0x15DD}, {0, 0x323, 1, 0x801, 0x501, 0x501}};
-    for (int i = 0; i < 2 * 6 * 13 && packets >= 10000; i++) {
-        int tail = i / 78, op = i / 13 % 6, v = i % 13;
-        if ((seen[tail][op][v] == 0) == (possible[tail][op] >> v & 1)) {
-            fprintf(stderr, "bench: operation %d answered %d %lu times%s\n", op, v, seen[tail][op][v],
-                    tail ? ", with a tail in the packet" : "");
+    /* every verdict that a call has for packets of this sort must have been met, and no other */
+    static const unsigned possible[SORTS][6] = {
+        {0, 0x3FF, 0xDD, 0x81D, 0x5DD, 0x15DD}, {0, 0x323, 1, 0x801, 0x501, 0x501},
+        {0, 0x311, 0x11, 0x801, 0x511, 0x511},  {0, 0x3D1, 0xD1, 0x801, 0x5D1, 0x5D1},
+    };
+    for (int i = 0; i < SORTS * 6 * 13 && packets >= 10000; i++) {
+        int sort = i / 78, op = i / 13 % 6, v = i % 13;
+        if ((seen[sort][op][v] == 0) == (possible[sort][op] >> v & 1)) {
+            fprintf(stderr, "bench: operation %d answered %d %lu times%s\n", op, v, seen[sort][op][v], sorts[sort]);
             exit(1);
         }
     }

@@ -3,12 +3,13 @@
  *
  * SHAPE is ONCE, as libraries are written and as ours is: what is found is handed on as values, and what follows stands
  * once for all protocols and families. Or it is COPIES: each protocol of each family has its own copy of all that
- * follows, and an IPv4 header of 20 bytes its own copies again. KIND is that of the sums, and BY the name of the way
- * that this becomes. */
+ * follows, and an IPv4 header of 20 bytes its own copies again, as has an IPv6 message with headers before it. KIND is
+ * that of the sums, and BY the name of the way that this becomes. */
 #include "sums.h"
 #include "ways.h"
 
 enum { ICMP = 1, TCP = 6, UDP = 17, ICMP6 = 58 };
+enum { HOP_BY_HOP = 0, ROUTING = 43, FRAGMENT = 44, OPTIONS = 60 };
 
 #define ONCE 0
 #define COPIES 1
@@ -17,12 +18,13 @@ enum { ICMP = 1, TCP = 6, UDP = 17, ICMP6 = 58 };
  * header's sum as well (a judge). */
 enum look { OUTER, SHAPED, SUMMED };
 
-/* A message, as far as it is known, and where its body begins; UDP's is the datagram, once its length was read. The
- * first four are constants in each copy, and so is the header's length but for one copy. */
+/* A message, as far as it is known: behind how many bytes of headers it stands, whether IPv6 has headers between, and
+ * where its body begins; UDP's is the datagram, once its length was read. Family, protocol and what depends on them are
+ * constants in each copy, and so is the header's length but for IPv4 with options and IPv6 with headers between. */
 struct message {
-    int family;
+    int family, between;
     unsigned protocol;
-    size_t fixed, field, header, len, body;
+    size_t header, len, fixed, field, body;
 };
 
 /* What is asked besides the packet: a side or place, and new bytes; and where a message is handed on. */
@@ -48,9 +50,9 @@ EACH uint8_t inner(work *then, uint8_t *p, struct message m, struct ask ask)
         if (RARE(m.body < 20 || m.body > m.len))
             return 4;
     }
-    /* mostly UDP says the message's length; IPv6 has declared that in the same byte order, which is of use where the
-     * family is known */
-    int declared = SHAPE == COPIES && m.family == 6;
+    /* mostly UDP says the message's length; IPv6 has declared that in the same byte order if nothing stands between,
+     * which is of use where it is known */
+    int declared = SHAPE == COPIES && m.family == 6 && !m.between;
     if (m.protocol == UDP && RARE(declared ? two(message + 4) != two(p + 4) : number(message + 4) != m.len)) {
         size_t datagram = number(message + 4);
         if (datagram < 8 || datagram > m.len)
@@ -60,26 +62,76 @@ EACH uint8_t inner(work *then, uint8_t *p, struct message m, struct ask ask)
     return then(p, m, ask);
 }
 
-EACH uint8_t covered(work *then, uint8_t *p, int family, unsigned protocol, size_t header, size_t len, struct ask ask)
+EACH struct message of(struct message m, unsigned protocol, size_t fixed, size_t field)
 {
-    if (__builtin_expect(protocol == UDP, 1))
-        return inner(then, p, (struct message){family, UDP, 8, 6, header, len, 0}, ask);
-    if (protocol == TCP)
-        return inner(then, p, (struct message){family, TCP, 20, 16, header, len, 0}, ask);
-    if (family == 4 && protocol == ICMP)
-        return inner(then, p, (struct message){family, ICMP, 8, 2, header, len, 0}, ask);
-    if (family == 6 && protocol == ICMP6)
-        return inner(then, p, (struct message){family, ICMP6, 4, 2, header, len, 0}, ask);
+    m.protocol = protocol;
+    m.fixed = fixed;
+    m.field = field;
+    return m;
+}
+
+/* *other is whether the protocol isn't in the table. */
+EACH uint8_t covered(work *then, uint8_t *p, struct message m, struct ask ask, int *other)
+{
+    *other = 0;
+    if (__builtin_expect(m.protocol == UDP, 1))
+        return inner(then, p, of(m, UDP, 8, 6), ask);
+    if (m.protocol == TCP)
+        return inner(then, p, of(m, TCP, 20, 16), ask);
+    if (m.family == 4 && m.protocol == ICMP)
+        return inner(then, p, of(m, ICMP, 8, 2), ask);
+    if (m.family == 6 && m.protocol == ICMP6)
+        return inner(then, p, of(m, ICMP6, 4, 2), ask);
+    *other = 1;
     return 7;
+}
+
+/* Walks the headers between, of which the first is met, and finds protocol and place of the message behind them. */
+EACH uint8_t walk(const uint8_t *p, struct message *m)
+{
+    const uint8_t *at = p + m->header;
+    size_t left = m->len;
+    unsigned next = m->protocol;
+    for (int passed = 0; next != UDP; passed++) {
+        if (next == FRAGMENT)
+            return 6;
+        if (next != HOP_BY_HOP && next != ROUTING && next != OPTIONS)
+            break;
+        if (RARE(next == HOP_BY_HOP ? passed > 0 : passed == 8))
+            return 7;
+        if (RARE(left < 8))
+            return 4;
+        size_t size = 8u * at[1] + 8;
+        if (RARE(size > left))
+            return 4;
+        if (next == ROUTING && RARE(at[3] != 0))
+            return 7;
+        next = at[0];
+        at += size;
+        left -= size;
+    }
+    *m = (struct message){6, 1, next, (size_t)(at - p), left, 0, 0, 0};
+    return 0;
+}
+
+/* The message of a packet whose IP header is right. Only a protocol that isn't in the table is taken for a header
+ * between, so that messages which have none before them pay for no walk. */
+EACH uint8_t reached(work *then, uint8_t *p, struct message m, struct ask ask)
+{
+    int other;
+    uint8_t verdict = covered(then, p, m, ask, &other);
+    if (m.family == 4 || !other)
+        return verdict;
+    verdict = walk(p, &m);
+    return verdict ? verdict : covered(then, p, m, ask, &other);
 }
 
 /* What follows the IP header: a copy of all the rest, or, once, what is known is handed on. */
 EACH uint8_t behind(work *then, enum look look, uint8_t *p, int family, unsigned protocol, size_t header, size_t len,
                     struct ask ask)
 {
-    if (SHAPE == COPIES && look != OUTER)
-        return covered(then, p, family, protocol, header, len, ask);
-    return then(p, (struct message){family, protocol, 0, 0, header, len, 0}, ask);
+    struct message m = {family, 0, protocol, header, len, 0, 0, 0};
+    return SHAPE == COPIES && look != OUTER ? reached(then, p, m, ask) : then(p, m, ask);
 }
 
 /* An IPv4 header of which 20 bytes are there. */
@@ -144,7 +196,7 @@ EACH uint8_t whole(work *then, enum look look, uint8_t *p, size_t len, struct as
     ask.found = &m;
     uint8_t refused = outer(found, look, p, len, ask);
     if (look != OUTER && !refused)
-        refused = covered(found, p, m.family, m.protocol, m.header, m.len, ask);
+        refused = reached(found, p, m, ask);
     return refused ? refused : then(p, m, ask);
 }
 

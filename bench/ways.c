@@ -97,6 +97,26 @@ struct place {
     int four;
 };
 
+/* Where UDP begins behind IPv6's headers between; 0 if these aren't such as may stand there, or it isn't UDP. It is
+ * rarely called, and stands apart so that what is called always is inlined as it would be without it. */
+static __attribute__((noinline)) size_t walk(const uint8_t *p, size_t end)
+{
+    size_t start = 40;
+    unsigned next = p[6];
+    for (int passed = 0; next != 17; passed++) {
+        const uint8_t *header = p + start;
+        if (passed == 8 || end - start < 8)
+            return 0;
+        if (!(next == 0 ? passed == 0 : next == 43 ? header[3] == 0 : next == 60))
+            return 0;
+        next = header[0];
+        start += 8u + 8u * header[1];
+        if (start > end)
+            return 0;
+    }
+    return start;
+}
+
 /* Finds them, and looks whether it is UDP and whole: then the end is the datagram's. A lifetime needs the IP header and
  * the declared length alone. */
 static inline int find(const uint8_t *p, size_t len, struct place *at, int udp)
@@ -109,7 +129,7 @@ static inline int find(const uint8_t *p, size_t len, struct place *at, int udp)
             return 0;
     } else if (len >= 40 && p[0] >> 4 == 6) {
         *at = (struct place){40, 40u + swap(word(p + 4)), 8, 16, 0};
-        if (at->end > len || (udp && p[6] != 17))
+        if (at->end > len || (udp && p[6] != 17 && (at->start = walk(p, at->end)) == 0))
             return 0;
     } else {
         return 0;
