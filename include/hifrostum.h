@@ -13,18 +13,34 @@
  * is neither judged nor changed. So are bytes inside it that follow a UDP datagram: UDP's length says
  * where that ends, and sum, body and edits end there.
  *
+ * Headers between. Over IPv6 up to eight headers may stand between the fixed header and the message:
+ * hop-by-hop (0), directly behind the fixed header alone, and routing (43) and destination options
+ * (60), in any order and repeated. In each, byte 0 names what comes next, and byte 1 is the length in
+ * units of 8 bytes, beyond the first 8. The walk goes from one to the next. Where what comes next is
+ * another number, that is the message's protocol, and what remains of the payload is the message. Each
+ * header is tested as it is met, in this order: a fragment header (44) is 6, whatever else there is to
+ * say of it; hop-by-hop that comes late, or a ninth header, is 7; one with fewer than 8 bytes left, or
+ * that passes the declared payload's end, is 4; routing with segments left (its byte 3 not 0) is 7.
+ *
+ * No sum covers the headers between. Damage there goes unseen, but for what the walk refuses; where it
+ * changes a length or what comes next, the message is looked for elsewhere, or taken for another, and
+ * another sum is asked for. The pseudo-header has the addresses of the fixed header, also where there
+ * is a routing header, the protocol at the walk's end, and the length of what remains (for UDP, of the
+ * datagram).
+ *
  * Refusals. Every verdict but good (0) and unsummed (1) is a refusal, and a refused call writes to
  * no buffer. Where several would apply, the first in the order given is the answer. Two lists have
  * names below, and look at no sum. "The outer refusals" are from the IP header and the declared
  * length alone, in this order: no bytes 2; version 3; under 20 (IPv4) or 40 (IPv6) bytes 2; IPv4
  * header length under 5 words 4; IPv4 total length below the header length 4; fewer bytes than
- * declared 2. "The shape's refusals" are the outer ones, and then: fragment 6; protocol 7; message
- * shorter than its fixed header 4; TCP's data offset or UDP's length below that header or past the
- * message 4.
+ * declared 2. "The shape's refusals" are the outer ones, and then: fragment 6, or over IPv6 what the
+ * walk refuses first, 6, 7 or 4; protocol 7; message shorter than its fixed header 4; TCP's data offset
+ * or UDP's length below that header or past the message 4.
  *
  * Fragments. A message's field stands in its first fragment and covers all of them, so nobody judges
- * it on the way: judge says 6 of an IPv4 fragment once its header's sum has passed, and 7 of an IPv6
- * one, whose next header is 44. Of the edits and the mender only the lifetime edit takes them.
+ * it on the way: judge says 6 of an IPv4 fragment once its header's sum has passed, and of an IPv6
+ * packet where the walk meets a fragment header, first or behind others. Of the edits and the mender
+ * only the lifetime edit takes them.
  */
 #ifndef HIFROSTUM_H
 #define HIFROSTUM_H
@@ -38,7 +54,7 @@ extern "C" {
 
 /* The version of this surface. It goes up by one whenever a function, a constant, or what an answer
  * means is added, changed or taken away; CHANGELOG.md says what a host's author must do then. */
-#define HIFROSTUM_SURFACE_VERSION 5
+#define HIFROSTUM_SURFACE_VERSION 6
 
 /* What a call answers. */
 enum hifrostum_verdict {
@@ -48,8 +64,8 @@ enum hifrostum_verdict {
     HIFROSTUM_VERSION = 3,     /* the version is not 4 or 6 */
     HIFROSTUM_SHAPE = 4,       /* a length contradicts another */
     HIFROSTUM_HEADER_SUM = 5,  /* the IPv4 header doesn't pass */
-    HIFROSTUM_FRAGMENT = 6,    /* more fragments follow, or the fragment offset is not 0 */
-    HIFROSTUM_UNCOVERED = 7,   /* a protocol that the library doesn't know in this family */
+    HIFROSTUM_FRAGMENT = 6,    /* more fragments follow, or the offset is not 0; a fragment header */
+    HIFROSTUM_UNCOVERED = 7,   /* a protocol not covered in this family, or headers not walked */
     HIFROSTUM_MISSING = 8,     /* UDP over IPv6 with the field 0000 */
     HIFROSTUM_MESSAGE_SUM = 9, /* the message doesn't pass */
     HIFROSTUM_PLACE = 10,      /* a piece, length, stretch, side or address doesn't fit */
@@ -72,8 +88,9 @@ uint8_t hifrostum_judge(const uint8_t *packet, size_t len);
 uint8_t hifrostum_mend(uint8_t *packet, size_t len);
 
 /* Lowers the lifetime (time to live, hop limit) by one and updates the IPv4 header field. The message
- * is not looked at: a fragment, an unknown protocol, a message of a wrong shape and a missing sum (8)
- * don't stop it, and the verdict stays what it was for these too. So judge first, and send on by the verdict.
+ * and headers between are not looked at: a fragment, an unknown protocol, a message of a wrong shape
+ * and a missing sum (8) don't stop it, and the verdict stays what it was for these too. So judge
+ * first, and send on by the verdict.
  * A damaged packet stays damaged: an edit updates and never mends. In a good one each field that it
  * updates becomes the one that hifrostum_mend would write. This holds of all three edits.
  * Refusals: the outer ones; 11 if the lifetime is 0 or 1. */
@@ -82,9 +99,9 @@ uint8_t hifrostum_lower_lifetime(uint8_t *packet, size_t len);
 /* Writes a new source (side 0) or destination (side 1) address and updates the fields that cover
  * it: the IPv4 header's, and the message's unless it is ICMP over IPv4. A UDP field 0000 over IPv4
  * stays. The address is read only.
- * A fragment is refused (6, or 7 over IPv6), since the message's field, which covers the address,
- * stands in the first fragment alone. So a relay that changes addresses sends a fragment on with
- * those that it came with, its lifetime lowered, or drops it.
+ * A fragment is refused (6), since the message's field, which covers the address, stands in the first
+ * fragment alone. So a relay that changes addresses sends a fragment on with those that it came with,
+ * its lifetime lowered, or drops it. An address in a routing header is neither read nor written.
  * Refusals: the shape's, then 8; 10 for another side, or unless the address has 4 bytes (IPv4) or
  * 16 (IPv6). */
 uint8_t hifrostum_set_address(uint8_t *packet, size_t len, uint32_t side,
@@ -92,8 +109,9 @@ uint8_t hifrostum_set_address(uint8_t *packet, size_t len, uint32_t side,
 
 /* Writes new bytes into the body from a place on, and updates the message field. The body is the
  * message after its fixed header (8 bytes for ICMP and UDP, 4 for ICMPv6), and for TCP after its
- * data offset; place 0 is its first byte. UDP's ends with the datagram. A UDP field 0000 over IPv4
- * stays. An empty stretch that fits answers 0 and writes nothing. The new bytes are read only.
+ * data offset; place 0 is its first byte, which is behind all headers between. UDP's ends with the
+ * datagram. A UDP field 0000 over IPv4 stays. An empty stretch that fits answers 0 and writes
+ * nothing. The new bytes are read only.
  * Refusals: the shape's, then 8; 10 unless place plus length is at most the body's length, and
  * nothing wraps; 12 for a nonempty stretch in an ICMP message that is all zeros, its field aside,
  * before or after. */

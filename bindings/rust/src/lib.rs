@@ -6,6 +6,12 @@
 //! its IP header. Bytes past its declared end are a tail, neither judged nor changed, and so are those
 //! inside it that follow a UDP datagram. A refused call changes no byte.
 //!
+//! Over IPv6 up to eight headers between are walked to the message: hop-by-hop directly behind the fixed
+//! header, routing and destination options. A fragment header is [`Fragment`](Verdict::Fragment) wherever
+//! it is met; a ninth header, a late hop-by-hop and routing with segments left are
+//! [`Uncovered`](Verdict::Uncovered); one that passes the payload's end is [`Shape`](Verdict::Shape). No
+//! sum covers these headers, so damage there goes unseen, but for what the walk refuses.
+//!
 //! ```no_run
 //! # let mut packet = [0u8; 20];
 //! use hifrostum::{judge, lower_lifetime, Verdict};
@@ -82,9 +88,9 @@ pub enum Verdict {
     Shape = 4,
     /// The IPv4 header doesn't pass.
     HeaderSum = 5,
-    /// More fragments follow, or the fragment offset is not 0.
+    /// More fragments follow, or the fragment offset is not 0; over IPv6, a fragment header.
     Fragment = 6,
-    /// A protocol that the library doesn't know in this family.
+    /// A protocol that isn't covered in this family, or headers between that aren't walked.
     Uncovered = 7,
     /// UDP over IPv6 with the field 0000.
     Missing = 8,
@@ -196,13 +202,14 @@ pub fn mend(packet: &mut [u8]) -> Verdict {
 
 /// Lowers the lifetime by one and updates the IPv4 header field; `Spent` if it is 0 or 1. Otherwise it
 /// refuses only for the IP header and the declared length, with `Cut`, `Version` and `Shape`: the message
-/// is not looked at, and the verdict stays what it was. So [`judge`] first, and send on by the verdict.
+/// and headers between are not looked at, and the verdict stays what it was. So [`judge`] first, and send
+/// on by the verdict.
 ///
 /// A damaged packet stays damaged: an edit updates and never mends. In a good packet each field that an
 /// edit updates is the one that [`mend`] would write. Both hold of all three edits.
 ///
-/// Fragments get through. The verdict on one is `Fragment` once the IPv4 header's sum has passed, and
-/// over IPv6, where 44 stands in byte 6, `Uncovered`; nobody on the way judges its message's sum.
+/// Fragments get through. The verdict on one is `Fragment`: over IPv4 once the header's sum has passed, and
+/// over IPv6 where a fragment header is met. Nobody on the way judges its message's sum.
 ///
 /// ```
 /// use hifrostum::{judge, lower_lifetime, Verdict};
@@ -228,8 +235,9 @@ pub fn set_address(packet: &mut [u8], side: Side, address: &[u8]) -> Verdict {
 }
 
 /// Writes new bytes into the body from a place on and updates the message field; `Place` if they
-/// don't fit, `Blank` for an ICMP message that is all zeros before or after. UDP's body ends with the
-/// datagram, as its length says, and not always with the packet.
+/// don't fit, `Blank` for an ICMP message that is all zeros before or after. The place counts from the
+/// body's first byte, which is behind all headers between. UDP's body ends with the datagram, as its length
+/// says, and not always with the packet.
 pub fn set_stretch(packet: &mut [u8], place: usize, bytes: &[u8]) -> Verdict {
     let (to, len) = (packet.as_mut_ptr(), packet.len());
     Verdict::answered(unsafe {

@@ -118,7 +118,7 @@ fn fragments_get_through() {
     let mut missing = six;
     (missing[6], missing[45]) = (17, 8);
     let mut packets = vec![
-        (Verdict::Uncovered, six.to_vec()),
+        (Verdict::Fragment, six.to_vec()),
         (Verdict::Missing, missing.to_vec()),
     ];
     for (at, value, verdict) in [
@@ -217,6 +217,113 @@ fn trailing_areas() {
     assert_eq!(set_stretch(&mut six, 0, b"I"), Verdict::Good);
     assert_eq!(six[46..], [0x8F, 0xC9, 0x49, 0xFF]);
     assert_eq!(set_stretch(&mut six, 1, b"I"), Verdict::Place);
+}
+
+/// UDP over IPv6 with the text "Hi!", behind these headers, each of which has its number and its other bytes.
+fn behind(headers: &[(u8, &[u8])]) -> Vec<u8> {
+    let mut packet = vec![0; 40];
+    (packet[0], packet[7], packet[23], packet[39]) = (0x60, 64, 1, 1);
+    let mut next = 6;
+    for (number, rest) in headers {
+        packet[next] = *number;
+        next = packet.len();
+        packet.push(0);
+        packet.extend_from_slice(rest);
+    }
+    packet[next] = 17;
+    packet.extend([0x13, 0x88, 0x13, 0x89, 0, 11, 0x6F, 0x5C, 0x48, 0x69, 0x21]);
+    let payload = packet.len() as u16 - 40;
+    packet[4..6].copy_from_slice(&payload.to_be_bytes());
+    packet
+}
+
+const PADDING: [u8; 7] = [0, 1, 4, 0, 0, 0, 0];
+
+/// Up to eight headers between: every call finds the message behind them, and changes none of their bytes.
+#[test]
+fn headers_between() {
+    let long = [&[1, 4, 0][..], &[0xFF; 12]].concat();
+    let hop = (0, &PADDING[..]);
+    let (routing, options) = ((43, &long[..]), (60, &PADDING[..]));
+    let eight = [
+        hop, options, routing, options, options, routing, options, options,
+    ];
+    for headers in [
+        &[][..],
+        &[hop],
+        &[options],
+        &[routing],
+        &[hop, routing],
+        &eight,
+    ] {
+        let good = behind(headers);
+        let start = good.len() - 11;
+        let mut packet = good.clone();
+        assert_eq!(judge(&packet), Verdict::Good);
+        packet[start + 10] ^= 1;
+        assert_eq!(judge(&packet), Verdict::MessageSum);
+        packet[start + 10] ^= 1;
+        packet[start + 6..start + 8].fill(1);
+        assert_eq!(mend(&mut packet), Verdict::Good);
+        assert_eq!(packet, good);
+        assert_eq!(lower_lifetime(&mut packet), Verdict::Good);
+        let to = [0x20, 1, 0x0D, 0xB8, 0, 0, 0, 0, 0, 0, 0, 0, 0, 0, 0, 9];
+        assert_eq!(
+            set_address(&mut packet, Side::Destination, &to),
+            Verdict::Good
+        );
+        assert_eq!(set_stretch(&mut packet, 1, b"o."), Verdict::Good);
+        assert_eq!(set_stretch(&mut packet, 2, b"o."), Verdict::Place);
+        assert_eq!((packet[7], &packet[24..40]), (63, &to[..]));
+        assert_eq!(packet[40..start + 6], good[40..start + 6]);
+        assert_eq!(packet[start + 8..], *b"Ho.");
+        assert_eq!(judge(&packet), Verdict::Good);
+        let edited = packet.clone();
+        assert_eq!(mend(&mut packet), Verdict::Good);
+        assert_eq!(packet, edited);
+    }
+}
+
+/// What the walk refuses, the first that it meets; and only the lifetime edit takes it.
+#[test]
+fn refused_headers_between() {
+    let (hop, options) = ((0, &PADDING[..]), (60, &PADDING[..]));
+    let fragment = (44, &[0, 0, 1, 0, 0, 0, 7][..]);
+    let left = (43, &[0, 4, 1, 0, 0, 0, 0][..]);
+    let (past, past_left) = (
+        (60, &[2, 1, 4, 0, 0, 0, 0][..]),
+        (43, &[2, 4, 1, 0, 0, 0, 0][..]),
+    );
+    let mut eight = vec![options; 8];
+    let mut refused = vec![
+        (Verdict::Fragment, behind(&[fragment])),
+        (Verdict::Fragment, behind(&[hop, fragment])),
+        (Verdict::Uncovered, behind(&[options, hop])),
+        (Verdict::Uncovered, behind(&[left])),
+        (Verdict::Uncovered, behind(&[left, fragment])),
+        (Verdict::Shape, behind(&[hop, past])),
+        (Verdict::Shape, behind(&[past_left])),
+    ];
+    for (ninth, verdict) in [
+        (options, Verdict::Uncovered),
+        (past, Verdict::Uncovered),
+        (fragment, Verdict::Fragment),
+    ] {
+        eight.push(ninth);
+        refused.push((verdict, behind(&eight)));
+        eight.pop();
+    }
+    for (verdict, mut packet) in refused {
+        let mut want = packet.clone();
+        want[7] -= 1;
+        assert_eq!(judge(&packet), verdict);
+        assert_eq!(mend(&mut packet), verdict);
+        assert_eq!(set_address(&mut packet, Side::Source, &[0; 16]), verdict);
+        assert_eq!(set_stretch(&mut packet, 0, b""), verdict);
+        assert_eq!(lower_lifetime(&mut packet), Verdict::Good);
+        assert_eq!(packet, want);
+        assert_eq!(judge(&packet), verdict);
+    }
 }
 
 /// A field at FFFF where the fresh one is 0000: an edit leaves what the mender writes.
