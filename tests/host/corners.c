@@ -1,6 +1,7 @@
 /* Packets that meet the rare branches by design: totals that are multiples of 65535, fields at 0000, FFFF and beside
  * them, changes of 0, 1 and 65534; messages of every length at every address modulo 32; lifetimes in packets that no
- * other edit takes; and UDP datagrams that end before their message does.
+ * other edit takes; UDP datagrams that end before their message does; and headers between, such as a walk gets past and
+ * such as it doesn't.
  *
  * What is wanted is the answer of model.h. After each call the verdict and every byte are compared, and in the end each
  * rare branch of the model must have been taken.
@@ -53,11 +54,12 @@ static void hold(enum call call, const struct packet *p, size_t address, size_t 
     if (got == wanted && memcmp(at, want.bytes, p->len) == 0 && kept)
         return;
     if (failed++ < 20)
-        printf("corners: failed: %s, IPv%u, protocol %u, message of %zu bytes, %zu covered, fields %04X and %04X: "
-               "wanted %u with %04X and %04X, got %u with %04X and %04X%s\n",
-               names[call], p->kind->family, p->kind->protocol, message_len(p), covered_len(p), word(p->bytes + 10),
-               word(p->bytes + p->header + p->kind->field), wanted, word(want.bytes + 10), word(field_of(&want)), got,
-               word(at + 10), word(at + p->header + p->kind->field), kept ? "" : "; a guard byte changed");
+        printf("corners: failed: %s, IPv%u, protocol %u at %zu, message of %zu bytes, %zu covered, fields %04X and "
+               "%04X: wanted %u with %04X and %04X, got %u with %04X and %04X%s\n",
+               names[call], p->kind->family, p->kind->protocol, p->header, message_len(p), covered_len(p),
+               word(p->bytes + 10), word(p->bytes + p->header + p->kind->field), wanted, word(want.bytes + 10),
+               word(field_of(&want)), got, word(at + 10), word(at + p->header + p->kind->field),
+               kept ? "" : "; a guard byte changed");
 }
 
 static void group(const char *name)
@@ -92,13 +94,39 @@ static void freshen(struct packet *p)
     mend(p);
 }
 
-/* Builds a packet of a kind with so many bytes of message, random, with both fields fresh. A tail follows the datagram,
- * or takes its end where a packet can't be longer. */
-static void build(struct packet *p, const struct kind *kind, size_t options, size_t message)
+/* A header between: its number and its length byte. */
+struct header {
+    unsigned number, units;
+};
+
+/* Draws so many headers between, mostly short ones and sometimes a longest. */
+static void draw(struct header *headers, size_t count)
 {
-    p->kind = kind;
-    p->fault = 0;
+    for (size_t i = 0; i < count; i++) {
+        headers[i].number = i == 0 && any(2) ? HOP_BY_HOP : any(2) ? ROUTING : OPTIONS;
+        headers[i].units = any(64) == 0 ? 255 : any(4);
+    }
+}
+
+/* The byte that names what stands at a place: a header between, or the message. */
+static uint8_t *name_of(struct packet *p, size_t place)
+{
+    uint8_t *name = p->bytes + 6;
+    for (size_t at = 40; at < place; at += 8 + 8u * p->bytes[at + 1])
+        name = p->bytes + at;
+    return name;
+}
+
+/* Builds a packet of a kind behind these headers, with so many bytes of message, random, with both fields fresh. A tail
+ * follows the datagram, or takes its end where a packet can't be longer. */
+static void build_behind(struct packet *p, const struct kind *kind, size_t options, const struct header *headers,
+                         size_t count, size_t message)
+{
+    p->built = p->kind = kind;
     p->header = kind->family == 4 ? 20 + options : 40;
+    for (size_t i = 0; i < count; i++)
+        p->header += 8 + 8 * headers[i].units;
+    p->placed = p->header;
     p->tail = kind->tail ? 1 + any(40) : 0;
     size_t longest = kind->family == 4 ? 65535 : 40 + 65535, len = p->header + message + p->tail;
     p->len = len < longest ? len : longest;
@@ -111,39 +139,86 @@ static void build(struct packet *p, const struct kind *kind, size_t options, siz
         p->bytes[9] = (uint8_t)kind->protocol;
     } else {
         p->bytes[0] = 0x60;
-        put(p->bytes + 4, message_len(p));
-        p->bytes[6] = (uint8_t)kind->protocol;
+        put(p->bytes + 4, p->len - 40);
+        uint8_t *name = p->bytes + 6;
+        for (size_t i = 0, at = 40; i < count; at += 8 + 8 * headers[i++].units) {
+            *name = (uint8_t)headers[i].number;
+            name = p->bytes + at;
+            name[1] = (uint8_t)headers[i].units;
+            name[3] = headers[i].number == ROUTING ? 0 : name[3];
+        }
+        *name = (uint8_t)kind->protocol;
     }
     p->bytes[kind->family == 4 ? 8 : 7] = 64;
     shape(p);
     freshen(p);
 }
 
-/* Ways to spoil what lies behind an IP header, or what the header says of it. */
-enum spoil { FIRST, MIDDLE, LAST, OTHER, EMPTY, SHORT, LESS, MORE, SPOILS };
+/* The same behind a few headers, sometimes eight, if it is of a kind that has such. */
+static void build(struct packet *p, const struct kind *kind, size_t options, size_t message)
+{
+    struct header headers[8] = {{0, 0}};
+    size_t count = !kind->between ? 0 : any(8) == 0 ? 8 : 1 + any(3);
+    draw(headers, count);
+    build_behind(p, kind, options, headers, count, message);
+}
 
-/* Makes a packet a fragment (in IPv6 one with a header between), gives it another protocol, cuts its message and its
- * declared length, or has TCP or UDP say a length below the fixed header's or past the message. The header field
- * becomes fresh. Answers 0 if this kind of packet can't be spoiled so. */
+/* Puts a header of 8 bytes before the message. */
+static void insert(struct packet *p, unsigned number)
+{
+    uint8_t *at = p->bytes + p->header, *name = name_of(p, p->header);
+    memmove(at + 8, at, p->len - p->header);
+    at[0] = *name;
+    at[1] = at[3] = 0;
+    *name = (uint8_t)number;
+    p->header += 8;
+    p->placed += 8;
+    p->len += 8;
+    put(p->bytes + 4, end_of(p) + 8 - 40);
+}
+
+/* Ways to spoil what lies behind an IP header, or what the header says of it. */
+enum spoil { FIRST, MIDDLE, LAST, OTHER, EMPTY, SHORT, LESS, MORE, LATE, NINTH, PAST, LEFT, SPOILS };
+
+/* Makes an IPv6 packet's headers between such as a walk doesn't get past: the message is called hop-by-hop, there are
+ * nine, the last one passes the payload's end, or there is a routing header with segments left. */
+static void spoil_walk(struct packet *p, enum spoil how)
+{
+    if (how == LATE)
+        *name_of(p, p->header) = HOP_BY_HOP;
+    if (how == PAST)
+        name_of(p, p->header)[1] = 255;
+    for (unsigned i = 0; how == NINTH && i < 9; i++)
+        insert(p, OPTIONS);
+    if (how == LEFT) {
+        insert(p, ROUTING);
+        p->bytes[p->header - 5] = 1;
+    }
+}
+
+/* Makes a packet a fragment (in IPv6 by a fragment header, the first or the last), gives it another protocol, cuts its
+ * message and its declared length, or has TCP or UDP say a length below the fixed header's or past the message; or
+ * spoils the walk. The header field becomes fresh. Answers 0 if this kind of packet can't be spoiled so. */
 static int spoil(struct packet *p, enum spoil how)
 {
-    static const unsigned flags[] = {0x2000, 0x60B9, 0x1FFF}, between[] = {44, 0, 60};
+    static const unsigned flags[] = {0x2000, 0x60B9, 0x1FFF};
     int four = p->kind->family == 4;
     uint8_t *message = p->bytes + p->header;
     if (how <= LAST && four)
         put(p->bytes + 6, flags[how]);
     else if (how <= OTHER)
-        p->bytes[four ? 9 : 6] = (uint8_t)(how == OTHER ? 47 : between[how]);
+        *(four ? p->bytes + 9 : name_of(p, how == FIRST ? 40 : p->header)) = how == OTHER ? 47 : FRAGMENT;
     else if (how <= SHORT) {
         p->len = p->header + (how == EMPTY ? 0 : p->kind->fixed - 1);
         put(p->bytes + (four ? 2 : 4), four ? p->len : p->len - 40);
-    } else if (p->kind->protocol == TCP)
+    } else if (how >= LATE && p->built->between)
+        spoil_walk(p, how);
+    else if (how <= MORE && p->kind->protocol == TCP)
         message[12] = how == LESS ? 0x40 : 0xF0;
-    else if (p->kind->protocol == UDP)
+    else if (how <= MORE && p->kind->protocol == UDP)
         put(message + 4, how == LESS ? 7 : message_len(p) + 1);
     else
         return 0;
-    p->fault = how <= LAST && four ? 6 : how <= OTHER ? 7 : how <= SHORT ? 4 : 0;
     if (four) {
         put(p->bytes + 10, 0);
         put(p->bytes + 10, 65535 - fold(total(p->bytes, p->header)));
@@ -441,18 +516,14 @@ static void to_multiples(void)
     group("edits to multiples and back");
 }
 
-/* The field that is right, and those that would be if the pseudo-header carried the message's length, if the tail were
- * summed, or both. */
-static void misread(size_t address)
+/* Judges and mends p with the field that would be right if the covered block were read so. */
+static void misread(enum how how, size_t address)
 {
-    for (unsigned how = RIGHT; how <= BOTH; how++) {
-        put(field_of(&p), 0);
-        unsigned field = 65535 - fold(total_read(&p, how));
-        put(field_of(&p), field == 0 ? 0xFFFF : field);
-        hold(JUDGE, &p, address, 0, NULL, 0);
-        hold(MEND, &p, address, 0, NULL, 0);
-    }
-    freshen(&p);
+    put(field_of(&p), 0);
+    unsigned field = 65535 - fold(total_read(&p, how));
+    put(field_of(&p), field == 0 ? 0xFFFF : field);
+    hold(JUDGE, &p, address, 0, NULL, 0);
+    hold(MEND, &p, address, 0, NULL, 0);
 }
 
 /* Edits of p. Stretches end on both sides of the datagram's end, and with the message. */
@@ -483,12 +554,114 @@ static void datagrams(void)
             put(p.bytes + p.header + 4, length < past ? length : others[length - past]);
             hold(JUDGE, &p, i % 32, 0, NULL, 0);
             hold(MEND, &p, i % 32, 0, NULL, 0);
+            for (enum how how = RIGHT; how <= BOTH && !refused(&p); how++)
+                misread(how, i % 32);
             if (!refused(&p))
-                misread(i % 32);
+                freshen(&p);
             edits(i % 32);
         }
     }
     group("datagrams that end before their message");
+}
+
+/* Every call on p. Stretches are such as fit the body or pass it by one, and empty ones. */
+static void every_call(size_t address)
+{
+    uint8_t new[64];
+    size_t body = refused(&p) ? 1 : p.header + covered_len(&p) - body_of(&p), some = body < 63 ? body : 63;
+    for (size_t i = 0; i < sizeof new; i++)
+        new[i] = (uint8_t)any(256);
+    hold(JUDGE, &p, address, 0, NULL, 0);
+    hold(MEND, &p, address, 0, NULL, 0);
+    hold(LOWER, &p, address, 0, NULL, 0);
+    hold(ADDRESS, &p, address, 0, new, 16);
+    hold(ADDRESS, &p, address, 1, new, 16);
+    hold(STRETCH, &p, address, body - some, new, some);
+    hold(STRETCH, &p, address, body - some, new, some + 1);
+    hold(STRETCH, &p, address, any((unsigned)body + 1), new, any(2));
+    hold(STRETCH, &p, address, body, NULL, 0);
+}
+
+/* What can be about one header between: nothing; it is a fragment header, or hop-by-hop; its length ends with the
+ * payload, or passes its end, or is 255; it has segments left, also with such a length, or before a fragment header;
+ * the payload ends before its eighth byte, or behind that; what follows all headers is another; or the payload ends
+ * with the last one; or any bytes are others. */
+enum about {
+    NOTHING, FRAGMENTED, HOPPING, TO_END, PAST_END, LONGEST, SEGMENTS, SEGMENTS_PAST, SEGMENTS_FRAGMENT, CUT_EARLY,
+    CUT_LATE, FOLLOWED, NO_MESSAGE, DAMAGED, ABOUTS
+};
+
+/* Has this be about a header of p. Bytes that the payload loses are behind the packet then. */
+static void be(enum about about, uint8_t *header, unsigned turn)
+{
+    static const uint8_t others[] = {0, 43, 44, 60, 1, 6, 17, 58, 50, 51, 59, 135, 255};
+    size_t at = (size_t)(header - p.bytes), end = end_of(&p), cut = end;
+    uint8_t *last = name_of(&p, p.header);
+    if (about >= SEGMENTS && about <= SEGMENTS_FRAGMENT) {
+        *name_of(&p, at) = ROUTING;
+        header[3] = (uint8_t)(turn % 3 ? 1 + any(255) : 1);
+    }
+    switch (about) {
+    case FRAGMENTED: *name_of(&p, at) = FRAGMENT; break;
+    case HOPPING: *name_of(&p, at) = HOP_BY_HOP; break;
+    case TO_END: cut = end - (end - at) % 8; header[1] = (uint8_t)((cut - at) / 8 - 1); break;
+    case PAST_END:
+    case SEGMENTS_PAST: header[1] = (uint8_t)((end - at) / 8); break;
+    case LONGEST: header[1] = 255; break;
+    case SEGMENTS_FRAGMENT: header[0] = FRAGMENT; break;
+    case CUT_EARLY: cut = at + turn % 8; break;
+    case CUT_LATE: cut = at + 8 + any(8u * header[1] + 1); break;
+    case FOLLOWED: *last = others[turn % sizeof others]; break;
+    case NO_MESSAGE: cut = p.header; *last = others[turn % sizeof others]; break;
+    case DAMAGED:
+        for (unsigned i = 0; i <= turn % 3; i++)
+            p.bytes[any(4) ? 40 + any((unsigned)p.header - 40) : 6] = (uint8_t)(any(2) ? any(256) : others[any(4)]);
+        break;
+    default: break;
+    }
+    put(p.bytes + 4, cut - 40);
+}
+
+/* Up to nine headers between, of which the ninth is refused anyway, and each thing that can be about any of them. What
+ * is lent ends with the packet, or goes on. */
+static void walks(void)
+{
+    struct header headers[9];
+    for (size_t i = 0; i < KINDS * 9 * ABOUTS * 26; i++) {
+        const struct kind *kind = &kinds[i % KINDS];
+        size_t count = 1 + i / KINDS % 9, which = any((unsigned)count), at = 40;
+        unsigned about = i / KINDS / 9 % ABOUTS, turn = (unsigned)(i / KINDS / 9 / ABOUTS);
+        if (!kind->between)
+            continue;
+        draw(headers, count);
+        build_behind(&p, kind, 0, headers, count, kind->fixed + any(2) * any(40));
+        for (size_t j = 0; j < which; j++)
+            at += 8 + 8 * headers[j].units;
+        be(about, p.bytes + at, turn);
+        if (turn % 2)
+            p.len = end_of(&p);
+        every_call(i % 32);
+    }
+    group("headers between");
+}
+
+/* Sums that are right only if the headers between are misread. One at least is a routing header with an address. */
+static void misreadings(void)
+{
+    for (size_t i = 0; i < KINDS * 60; i++) {
+        struct header headers[8] = {{0, 0}};
+        size_t count = 1 + any(8);
+        if (!kinds[i % KINDS].between)
+            continue;
+        draw(headers, count);
+        headers[any((unsigned)count)] = (struct header){ROUTING, 2 + any(3)};
+        build_behind(&p, &kinds[i % KINDS], 0, headers, count, kinds[i % KINDS].fixed + any(60));
+        for (enum how how = PAYLOAD; how <= ROUTED; how++) {
+            misread(how, i % 32);
+            every_call(i % 32);
+        }
+    }
+    group("headers between, misread");
 }
 
 /* Fails unless each branch was met with each kind that has it. */
@@ -505,11 +678,13 @@ static unsigned long branches(void)
                            : b == HEADER_ZERO || b == HEADER_FULL                ? four
                            : b == UPDATED_HEADER || b == FULL_HEADER             ? four
                            : b == LOWERED_SILENT                                 ? udp && !four
+                           : b >= WALK_EIGHT                                     ? kinds[k].between != 0
                            : b >= TAIL_LENGTH                                    ? kinds[k].tail != 0
                                                                                  : 1;
             if ((met[k][b] != 0) != possible) {
-                printf("corners: failed: branch %u was met %lu times, IPv%u, protocol %u%s\n", b, met[k][b],
-                       kinds[k].family, kinds[k].protocol, kinds[k].tail ? " with a tail" : "");
+                printf("corners: failed: branch %u was met %lu times, IPv%u, protocol %u%s%s\n", b, met[k][b],
+                       kinds[k].family, kinds[k].protocol, kinds[k].tail ? " with a tail" : "",
+                       kinds[k].between ? " behind headers" : "");
                 failed++;
             }
             all += possible;
@@ -528,6 +703,8 @@ int main(void)
     stretches();
     to_multiples();
     datagrams();
+    walks();
+    misreadings();
     unsigned long rare = branches();
     printf("corners: %lu checks, %lu failed (%lu rare branches, each met)\n", checks, failed, rare);
     return failed != 0;

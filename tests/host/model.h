@@ -1,20 +1,23 @@
-/* A model of the rules for packets whose IP header and declared length are right: the rules paper's formulas over the
- * covered block, which is laid out whole, pseudo-header first, and summed byte by byte. A packet that is a fragment, of
- * another protocol or without a whole fixed header says so itself. It never asks the library. It counts how often it
- * takes the rare branches. */
+/* A model of the rules for packets whose IP header and declared length are right: over IPv6 a walk past the headers
+ * between, and the rules paper's formulas over the covered block, which is laid out whole, pseudo-header first, and
+ * summed byte by byte. It finds each message from the packet's bytes alone, and never asks the library. It counts
+ * how often it takes the rare branches. */
 #ifndef MODEL_H
 #define MODEL_H
 
 #include <stdint.h>
 #include <string.h>
 
-enum { ICMP = 1, TCP = 6, UDP = 17, ICMP6 = 58, ROOM = 65600 };
+enum { ICMP = 1, TCP = 6, UDP = 17, ICMP6 = 58, ROOM = 65700 };
+enum { HOP_BY_HOP = 0, ROUTING = 43, FRAGMENT = 44, OPTIONS = 60 };
 
-/* Kinds of packets. In those with a tail bytes follow the UDP datagram inside the packet. */
+/* Kinds of packets. In those with a tail bytes follow the UDP datagram inside the packet, and in the last four headers
+ * stand between the fixed header and the message. */
 static const struct kind {
-    unsigned family, protocol, fixed, field, tail;
-} kinds[] = {{4, ICMP, 8, 2, 0}, {4, TCP, 20, 16, 0}, {4, UDP, 8, 6, 0}, {4, UDP, 8, 6, 1},
-             {6, TCP, 20, 16, 0}, {6, UDP, 8, 6, 0}, {6, UDP, 8, 6, 1}, {6, ICMP6, 4, 2, 0}};
+    unsigned family, protocol, fixed, field, tail, between;
+} kinds[] = {{4, ICMP, 8, 2, 0, 0},   {4, TCP, 20, 16, 0, 0}, {4, UDP, 8, 6, 0, 0}, {4, UDP, 8, 6, 1, 0},
+             {6, TCP, 20, 16, 0, 0},  {6, UDP, 8, 6, 0, 0},   {6, UDP, 8, 6, 1, 0}, {6, ICMP6, 4, 2, 0, 0},
+             {6, TCP, 20, 16, 0, 1},  {6, UDP, 8, 6, 0, 1},   {6, UDP, 8, 6, 1, 1}, {6, ICMP6, 4, 2, 0, 1}};
 enum { KINDS = sizeof kinds / sizeof *kinds };
 
 /* Rare branches, and how often the model took them in a compared call, for each kind of packet. */
@@ -41,6 +44,32 @@ enum branch {
     TAIL_OUT,       /* a datagram passes that wouldn't in any of these ways */
     TAIL_PADS,      /* an odd datagram passes that has another byte than 00 behind it */
     TAIL_BODY,      /* a stretch is refused that would fit if the tail were body */
+    WALK_EIGHT,     /* a walk gets past eight headers, and to a message */
+    WALK_LONG,      /* and past one with the length 255 */
+    WALK_END,       /* and past one that ends with the payload */
+    WALK_FRAGMENT,  /* it meets a fragment header */
+    FRAGMENT_NINTH, /* and that as the ninth */
+    FRAGMENT_SHORT, /* or with fewer than 8 bytes left */
+    FRAGMENT_NONE,  /* or with none left */
+    WALK_LATE,      /* it meets hop-by-hop that comes late */
+    LATE_PAST,      /* and that passes the payload's end */
+    WALK_NINTH,     /* it meets a ninth header */
+    NINTH_PAST,     /* and that passes the payload's end */
+    WALK_SHORT,     /* it meets a header with fewer than 8 bytes left */
+    SHORT_NONE,     /* and that with none left */
+    WALK_PAST,      /* it meets one that passes the payload's end */
+    PAST_INSIDE,    /* and that though the bytes are there, behind the packet */
+    PAST_LEFT,      /* and that has segments left */
+    WALK_LEFT,      /* it meets a routing header with segments left */
+    LEFT_FRAGMENT,  /* and that before a fragment header */
+    WALK_OTHER,     /* it ends at a protocol that isn't covered */
+    WALK_MOVED,     /* it ends at another place or protocol than the packet was built with */
+    BETWEEN_LENGTH, /* a message doesn't pass that would with the payload's length in its pseudo-header */
+    BETWEEN_SUMMED, /* or with the headers between summed */
+    BETWEEN_BOTH,   /* or with both */
+    BETWEEN_NAMED,  /* or with what the fixed header names as its protocol */
+    BETWEEN_ROUTED, /* or with the last address of a routing header as its destination */
+    BETWEEN_OUT,    /* a message passes that wouldn't in any of these ways */
     BRANCHES
 };
 static unsigned long met[KINDS][BRANCHES];
@@ -84,33 +113,47 @@ static unsigned equation3(unsigned field, unsigned old, unsigned new)
     return 65535 - fold(65535ul - field + 65535ul - old + new);
 }
 
-/* A packet. Its kind says where things stand, and its fault is 6, 7 or 4 if it is a fragment, of another protocol, or
- * its message is shorter than the fixed header, and otherwise 0. It was built with so many bytes of tail. */
+/* A packet. It was built as one kind, with its message at a place and so many bytes of tail inside; what kind it is,
+ * and where its message begins, is found from its bytes. Bytes may follow its declared end. */
 struct packet {
-    const struct kind *kind;
-    unsigned fault;
-    size_t header, len, tail;
+    const struct kind *built, *kind;
+    size_t placed, header, len, tail;
     uint8_t bytes[ROOM];
 };
 
 static void copy(struct packet *to, const struct packet *from)
 {
+    to->built = from->built;
     to->kind = from->kind;
-    to->fault = from->fault;
+    to->placed = from->placed;
     to->header = from->header;
     to->len = from->len;
     to->tail = from->tail;
     memcpy(to->bytes, from->bytes, from->len);
 }
 
+/* Counts a branch, unless the walk has found another message than was built. */
 static void meet(const struct packet *p, enum branch branch, int taken)
 {
-    met[p->kind - kinds][branch] += comparing && taken;
+    int as_built = p->kind->protocol == p->built->protocol && p->header == p->placed;
+    met[p->built - kinds][branch] += comparing && taken && as_built;
+}
+
+/* Counts a branch of the walk. */
+static void meet_walk(const struct packet *p, enum branch branch, int taken)
+{
+    met[p->built - kinds][branch] += comparing && taken && p->built->between;
+}
+
+/* The declared end. */
+static size_t end_of(const struct packet *p)
+{
+    return p->built->family == 4 ? word(p->bytes + 2) : 40 + word(p->bytes + 4);
 }
 
 static size_t message_len(const struct packet *p)
 {
-    return p->len - p->header;
+    return end_of(p) - p->header;
 }
 
 /* How much of the message is covered: what UDP says of its datagram, and of others all. */
@@ -129,20 +172,104 @@ static size_t body_of(const struct packet *p)
     return p->header + (p->kind->protocol == TCP ? p->bytes[p->header + 12] / 16 * 4u : p->kind->fixed);
 }
 
-/* The refusal of a packet's shape: its fault, or 4 if TCP's data offset or UDP's length is below the fixed header's
- * length or past the message. */
-static unsigned refused(const struct packet *p)
+/* Walks from byte 40 to the message, past the headers between. Answers the first refusal met, or 0 with the protocol
+ * and the place where the walk ends. */
+static unsigned walk(const struct packet *p, unsigned *protocol, size_t *place)
 {
-    size_t said = p->kind->protocol == TCP ? body_of(p) - p->header : covered_len(p);
-    if (p->fault != 0)
-        return p->fault;
-    return said < p->kind->fixed || said > message_len(p) ? 4 : 0;
+    unsigned next = p->bytes[6], passed = 0;
+    size_t at = 40, end = end_of(p);
+    while (next == HOP_BY_HOP || next == ROUTING || next == FRAGMENT || next == OPTIONS) {
+        const uint8_t *header = p->bytes + at;
+        size_t left = end - at, size = left < 8 ? 8 : 8 + 8u * header[1];
+        int late = next == HOP_BY_HOP && passed > 0, ninth = passed == 8, past = size > left;
+        int unfinished = next == ROUTING && left >= 8 && header[3] != 0;
+        if (next == FRAGMENT) {
+            meet_walk(p, WALK_FRAGMENT, 1);
+            meet_walk(p, FRAGMENT_NINTH, ninth);
+            meet_walk(p, FRAGMENT_SHORT, left < 8);
+            meet_walk(p, FRAGMENT_NONE, left == 0);
+            return 6;
+        }
+        meet_walk(p, WALK_LATE, late && !ninth && !past);
+        meet_walk(p, LATE_PAST, late && !ninth && past);
+        meet_walk(p, WALK_NINTH, !late && ninth && !past);
+        meet_walk(p, NINTH_PAST, !late && ninth && past);
+        if (late || ninth)
+            return 7;
+        meet_walk(p, WALK_SHORT, left < 8);
+        meet_walk(p, SHORT_NONE, left == 0);
+        meet_walk(p, WALK_PAST, left >= 8 && past);
+        meet_walk(p, PAST_INSIDE, left >= 8 && past && at + size <= p->len);
+        meet_walk(p, PAST_LEFT, past && unfinished);
+        if (past)
+            return 4;
+        meet_walk(p, WALK_LEFT, unfinished);
+        meet_walk(p, LEFT_FRAGMENT, unfinished && header[0] == FRAGMENT);
+        if (unfinished)
+            return 7;
+        meet_walk(p, WALK_LONG, header[1] == 255);
+        meet_walk(p, WALK_END, size == left);
+        next = header[0];
+        at += size;
+        passed++;
+    }
+    meet_walk(p, WALK_EIGHT, passed == 8);
+    meet_walk(p, WALK_MOVED, at != p->placed || next != p->built->protocol);
+    *protocol = next;
+    *place = at;
+    return 0;
 }
 
-/* Lays out the block of so many bytes of message, with a length for its pseudo-header, and answers how long it is. */
-static size_t block(const struct packet *p, size_t len, size_t length, uint8_t *out)
+/* Finds the message, and answers the first refusal of a packet's shape: a fragment or what the walk meets, a protocol
+ * that isn't covered, a message without a whole fixed header, or TCP's data offset or UDP's length below the fixed
+ * header's length or past the message. */
+static unsigned refused(struct packet *p)
 {
-    size_t size = 0;
+    unsigned family = p->built->family, protocol = p->bytes[9], refusal = 0;
+    if (family == 4) {
+        p->header = 4u * (p->bytes[0] & 15);
+        refusal = word(p->bytes + 6) & 0x3FFF ? 6 : 0;
+    } else
+        refusal = walk(p, &protocol, &p->header);
+    if (refusal)
+        return refusal;
+    const struct kind *kind = kinds;
+    while (kind < kinds + KINDS && (kind->family != family || kind->protocol != protocol))
+        kind++;
+    meet_walk(p, WALK_OTHER, kind == kinds + KINDS);
+    if (kind == kinds + KINDS)
+        return 7;
+    p->kind = kind;
+    if (message_len(p) < kind->fixed)
+        return 4;
+    size_t said = protocol == TCP ? body_of(p) - p->header : covered_len(p);
+    return said < kind->fixed || said > message_len(p) ? 4 : 0;
+}
+
+/* How the covered block is read: right, or with the message's length in UDP's pseudo-header, the tail summed, or
+ * both; or with the payload's length there, the headers between summed, or both; or with the protocol that the fixed
+ * header names, or the last address of the last routing header as destination. */
+enum how { RIGHT, LENGTH, SUMMED, BOTH, PAYLOAD, HEADERS, WHOLE, NAMED, ROUTED };
+
+/* The last 16 bytes of the last routing header that has as many, or else the fixed header's destination. */
+static const uint8_t *routed(const struct packet *p)
+{
+    const uint8_t *found = p->bytes + 24;
+    unsigned next = p->bytes[6];
+    for (size_t at = 40; at < p->header; at += 8 + 8u * p->bytes[at + 1]) {
+        if (next == ROUTING && p->bytes[at + 1] >= 2)
+            found = p->bytes + at + 8u * p->bytes[at + 1] - 8;
+        next = p->bytes[at];
+    }
+    return found;
+}
+
+/* Lays out the block, and answers how long it is. */
+static size_t block(const struct packet *p, enum how how, uint8_t *out)
+{
+    size_t size = 0, from = p->header;
+    size_t len = how == SUMMED || how == BOTH ? message_len(p) : covered_len(p);
+    size_t length = how == LENGTH || how == BOTH ? message_len(p) : covered_len(p);
     if (p->kind->family == 4 && p->kind->protocol != ICMP) {
         memcpy(out, p->bytes + 12, 8);
         out[8] = 0;
@@ -150,25 +277,24 @@ static size_t block(const struct packet *p, size_t len, size_t length, uint8_t *
         put(out + 10, length);
         size = 12;
     } else if (p->kind->family == 6) {
-        memcpy(out, p->bytes + 8, 32);
+        memcpy(out, p->bytes + 8, 16);
+        memcpy(out + 16, how == ROUTED ? routed(p) : p->bytes + 24, 16);
         memset(out + 32, 0, 8);
-        put(out + 34, length);
-        out[39] = (uint8_t)p->kind->protocol;
+        put(out + 34, how == PAYLOAD || how == WHOLE ? end_of(p) - 40 : length);
+        out[39] = how == NAMED ? p->bytes[6] : (uint8_t)p->kind->protocol;
         size = 40;
+        from = how == HEADERS || how == WHOLE ? 40 : from;
     }
-    memcpy(out + size, p->bytes + p->header, len);
+    len += p->header - from;
+    memcpy(out + size, p->bytes + from, len);
     return size + len;
 }
 
-/* The total of what is covered. Or what it would be with the message's length in the pseudo-header (1), with the tail
- * summed (2), or with both (3). */
-enum { RIGHT, LENGTH, SUMMED, BOTH };
-static unsigned long total_read(const struct packet *p, unsigned how)
+/* The total of what is covered, if that is read so. */
+static unsigned long total_read(const struct packet *p, enum how how)
 {
     static uint8_t covered[ROOM + 40];
-    size_t len = how & SUMMED ? message_len(p) : covered_len(p);
-    size_t length = how & LENGTH ? message_len(p) : covered_len(p);
-    return total(covered, block(p, len, length, covered));
+    return total(covered, block(p, how, covered));
 }
 
 static unsigned long message_total(const struct packet *p)
@@ -186,15 +312,29 @@ static void meet_tail(const struct packet *p, int passed)
 {
     size_t covered = covered_len(p);
     int others = 0;
-    if (covered == message_len(p))
+    if (!p->built->tail || covered == message_len(p))
         return;
-    for (unsigned how = LENGTH; how <= BOTH; how++) {
+    for (enum how how = LENGTH; how <= BOTH; how++) {
         int other = passes(total_read(p, how));
         meet(p, TAIL_LENGTH + how - LENGTH, !passed && other);
         others |= other;
     }
     meet(p, TAIL_OUT, passed && !others);
     meet(p, TAIL_PADS, passed && covered % 2 == 1 && p->bytes[p->header + covered] != 0);
+}
+
+/* And one with headers between, unless it is long: there are enough short ones. */
+static void meet_between(const struct packet *p, int passed)
+{
+    int others = 0;
+    if (!p->built->between || p->header == 40 || message_len(p) > 300)
+        return;
+    for (enum how how = PAYLOAD; how <= ROUTED; how++) {
+        int other = passes(total_read(p, how)) && (how != ROUTED || routed(p) != p->bytes + 24);
+        meet(p, BETWEEN_LENGTH + how - PAYLOAD, !passed && other);
+        others |= other;
+    }
+    meet(p, BETWEEN_OUT, passed && !others);
 }
 
 static int silent(struct packet *p)
@@ -206,19 +346,21 @@ static int silent(struct packet *p)
 
 static unsigned judge(struct packet *p)
 {
+    unsigned refusal = refused(p);
     if (p->kind->family == 4) {
         if (!passes(total(p->bytes, p->header)))
             return 5;
         meet(p, HEADER_ZERO, word(p->bytes + 10) == 0);
         meet(p, HEADER_FULL, word(p->bytes + 10) == 0xFFFF);
     }
-    if (refused(p))
-        return refused(p);
+    if (refusal)
+        return refusal;
     if (silent(p))
         return p->kind->family == 4 ? 1 : 8;
     unsigned long sum = message_total(p);
     meet(p, TOTAL_ZERO, sum == 0);
     meet_tail(p, passes(sum));
+    meet_between(p, passes(sum));
     if (!passes(sum))
         return 9;
     meet(p, PASSES_ZERO, word(field_of(p)) == 0);
@@ -228,8 +370,9 @@ static unsigned judge(struct packet *p)
 
 static unsigned mend(struct packet *p)
 {
-    if (refused(p))
-        return refused(p);
+    unsigned refusal = refused(p);
+    if (refusal)
+        return refusal;
     if (p->kind->family == 4) {
         put(p->bytes + 10, 0);
         put(p->bytes + 10, 65535 - fold(total(p->bytes, p->header)));
@@ -270,14 +413,15 @@ static void renew_message(struct packet *p, size_t place, const uint8_t *old, co
     put(field_of(p), p->kind->protocol == UDP && answer == 0 ? 0xFFFF : answer);
 }
 
-/* It doesn't look behind the IP header. */
+/* It doesn't look behind the IP header: that it asks what is refused is for the counts alone. */
 static unsigned lower(struct packet *p)
 {
     uint8_t *lifetime = p->bytes + (p->kind->family == 4 ? 8 : 7), less = (uint8_t)(*lifetime - 1);
     if (*lifetime < 2)
         return 11;
-    meet(p, LOWERED_FAULT, refused(p));
-    meet(p, LOWERED_SILENT, !refused(p) && p->kind->family == 6 && silent(p));
+    unsigned refusal = refused(p);
+    meet(p, LOWERED_FAULT, refusal != 0);
+    meet(p, LOWERED_SILENT, refusal == 0 && p->kind->family == 6 && silent(p));
     renew_header(p, 8, lifetime, &less, 1);
     *lifetime = less;
     return 0;
@@ -287,8 +431,9 @@ static unsigned set_address(struct packet *p, unsigned side, const uint8_t *new)
 {
     size_t size = p->kind->family == 4 ? 4 : 16;
     uint8_t *at = p->bytes + (p->kind->family == 4 ? 12 : 8) + side * size;
-    if (refused(p))
-        return refused(p);
+    unsigned refusal = refused(p);
+    if (refusal)
+        return refusal;
     if (p->kind->family == 6 && silent(p))
         return 8;
     renew_header(p, 12, at, new, size);
@@ -302,7 +447,7 @@ static unsigned set_address(struct packet *p, unsigned side, const uint8_t *new)
 static int blank(const struct packet *p)
 {
     unsigned long sum = 0;
-    for (size_t i = p->header; i < p->len; i++)
+    for (size_t i = p->header; i < end_of(p); i++)
         if (i - p->header < 2 || i - p->header > 3)
             sum += p->bytes[i];
     return p->kind->protocol == ICMP && sum == 0;
@@ -311,13 +456,14 @@ static int blank(const struct packet *p)
 static unsigned set_stretch(struct packet *p, size_t place, const uint8_t *new, size_t len)
 {
     static struct packet after;
+    unsigned refusal = refused(p);
+    if (refusal)
+        return refusal;
     uint8_t *at = p->bytes + body_of(p) + place;
-    if (refused(p))
-        return refused(p);
     if (p->kind->family == 6 && silent(p))
         return 8;
     int past = place + len > p->header + covered_len(p) - body_of(p);
-    meet(p, TAIL_BODY, past && place + len <= p->len - body_of(p));
+    meet(p, TAIL_BODY, past && place + len <= end_of(p) - body_of(p));
     if (past)
         return 10;
     if (len == 0)
