@@ -3,8 +3,9 @@
  * Each call is made three times: over buffers with guard bytes on both sides, over buffers at odd
  * addresses, and over buffers that end where memory that can't be touched begins. The three must
  * agree, no guard byte may change, and a refused call may change nothing at all. An empty buffer is
- * a null pointer in the first. Tails inside a packet also lie in memory that can't be touched. What
- * is wanted is the rules paper's or comes from the sums below.
+ * a null pointer in the first. Tails inside a packet also lie in memory that can't be touched, and so
+ * does what headers between reach for behind a payload. What is wanted is the rules' or comes from the
+ * sums below.
  */
 #define _DEFAULT_SOURCE
 #include <stdio.h>
@@ -261,22 +262,35 @@ static void join(uint16_t fold_a, uint64_t length_a, uint16_t fold_b, uint64_t l
     }
 }
 
-/* Where a message begins, and how long it is. */
+/* Where a message begins, behind headers between too if they are right, of which protocol it is, and how long. */
 static size_t start_of(const uint8_t *packet)
 {
-    return packet[0] >> 4 == 4 ? 4u * (packet[0] & 15) : 40;
+    if (packet[0] >> 4 == 4)
+        return 4u * (packet[0] & 15);
+    size_t at = 40;
+    for (unsigned next = packet[6]; next == 0 || next == 43 || next == 60; at += 8 + 8u * packet[at + 1])
+        next = packet[at];
+    return at;
+}
+
+static unsigned protocol_of(const uint8_t *packet)
+{
+    unsigned next = packet[0] >> 4 == 4 ? packet[9] : packet[6];
+    for (size_t at = 40; packet[0] >> 4 == 6 && at < start_of(packet); at += 8 + 8u * packet[at + 1])
+        next = packet[at];
+    return next;
 }
 
 static size_t message_of(const uint8_t *packet)
 {
-    return packet[0] >> 4 == 4 ? word(packet + 2) - start_of(packet) : word(packet + 4);
+    return (packet[0] >> 4 == 4 ? word(packet + 2) : 40 + word(packet + 4)) - start_of(packet);
 }
 
 /* What so many bytes of message sum to, the field included, with a length in the pseudo-header. */
 static unsigned sum_of(const uint8_t *packet, size_t len, size_t length)
 {
     int four = packet[0] >> 4 == 4;
-    unsigned protocol = four ? packet[9] : packet[6];
+    unsigned protocol = protocol_of(packet);
     unsigned long total = weigh(packet + start_of(packet), len);
     if (protocol != 1)
         total += weigh(packet + (four ? 12 : 8), four ? 8 : 32) + protocol + length;
@@ -286,7 +300,7 @@ static unsigned sum_of(const uint8_t *packet, size_t len, size_t length)
 /* What a message's own sum comes to. UDP says how long it is. */
 static unsigned message_sum(const uint8_t *packet)
 {
-    int udp = (packet[0] >> 4 == 4 ? packet[9] : packet[6]) == 17;
+    int udp = protocol_of(packet) == 17;
     size_t len = udp ? word(packet + start_of(packet) + 4) : message_of(packet);
     return sum_of(packet, len, len);
 }
@@ -707,7 +721,8 @@ static void passed_over(size_t len, unsigned verdict)
 }
 
 /* First, middle and last fragments of each protocol, with options and a tail or without, down to an empty message.
- * The last ones are zeros, also where a whole packet has its field: they are data and stay. */
+ * The last ones are zeros, also where a whole packet has its field: they are data and stay. Over IPv6 a fragment header
+ * makes them so, whatever its bytes are. */
 static void fragments(void)
 {
     static const unsigned flags[] = {0x2000, 0x60B9, 0x0001}, protocols[] = {1, 6, 17, 58, 47};
@@ -718,6 +733,10 @@ static void fragments(void)
         p[0] = (uint8_t)(0x45 + options / 4);
         put(p + 6, flags[i / 4 % 3]);
         memset(p + 20 + options, 0, i / 4 % 3 == 2 ? message : 0);
+        memset(p + len, 0xEE, tail);
+        passed_over(len + tail, 6);
+        len = packet_of(p, 6, 44, message);
+        memset(p + 40, i / 4 % 3 == 2 ? 0 : (int)protocols[i / 12], message);
         memset(p + len, 0xEE, tail);
         passed_over(len + tail, 6);
     }
@@ -742,12 +761,12 @@ static void fragments(void)
     expect(judge(p, len), 6, "and is right without the damage");
 }
 
-/* Protocols that aren't covered, IPv6's headers between among them; messages of a wrong shape; UDP over IPv6 with no
- * sum. */
+/* Protocols that aren't covered, those of IPv6's headers among them that aren't walked; messages of a wrong shape; UDP
+ * over IPv6 with no sum. */
 static void unjudged(void)
 {
     static const uint8_t other4[] = {0, 2, 41, 44, 47, 50, 58, 255};
-    static const uint8_t other6[] = {0, 1, 43, 44, 50, 51, 59, 60, 135, 255};
+    static const uint8_t other6[] = {1, 4, 41, 47, 50, 51, 59, 135, 139, 255};
     for (size_t i = 0; i < sizeof other4; i++)
         passed_over(packet_of(p, 4, other4[i], 5 * i), 7);
     for (size_t i = 0; i < sizeof other6; i++)
@@ -851,8 +870,13 @@ static void address(void)
     expect(call(ADDRESS, p, 48, 1, new6, 15), 10, "an address of 15 bytes");
     expect(call(ADDRESS, p, 48, 1, new6, 17), 10, "an address of 17 bytes");
     expect(call(ADDRESS, p, 48, 1, new4, 4), 10, "an address of the other family");
-    p[6] = 44;
+    p[6] = 59;
     expect(call(ADDRESS, p, 48, 2, new4, 0), 7, "uncovered comes first");
+    p[6] = 44;
+    expect(call(ADDRESS, p, 48, 2, new4, 0), 6, "and so does a fragment");
+    p[6] = 60;
+    p[41] = 1;
+    expect(call(ADDRESS, p, 48, 2, new4, 0), 4, "and a header that passes the payload's end");
 }
 
 static void stretch(void)
@@ -1065,13 +1089,26 @@ static size_t field_for(unsigned sum)
     return sum == 0xFFFF ? 0xFFFF : 65535 - sum;
 }
 
-/* Sets both fields of a UDP packet fresh. */
+/* Where a message's field is, and where its body begins, TCP having no options. */
+static size_t field_of(const uint8_t *packet)
+{
+    unsigned protocol = protocol_of(packet);
+    return start_of(packet) + (protocol == 6 ? 16 : protocol == 17 ? 6 : 2);
+}
+
+static size_t body_of(const uint8_t *packet)
+{
+    unsigned protocol = protocol_of(packet);
+    return start_of(packet) + (protocol == 6 ? 20 : protocol == 58 ? 4 : 8);
+}
+
+/* Sets both fields of a packet fresh. */
 static void freshen(uint8_t *packet)
 {
-    uint8_t *field = packet + start_of(packet) + 6;
+    uint8_t *field = packet + field_of(packet);
     fresh_header(packet);
     put(field, 0);
-    put(field, field_for(message_sum(packet)));
+    put(field, protocol_of(packet) == 17 ? field_for(message_sum(packet)) : 65535 - message_sum(packet));
 }
 
 /* p becomes good UDP with so many bytes of options (IPv4 alone), of datagram, and of tail inside the packet. */
@@ -1315,6 +1352,363 @@ static void tail_captures(void)
     capture(packets, end, verdicts, 2 * RECORDS - 1, 16, 0);
 }
 
+/* Headers between, written as numbers with blanks between: "0 60 17" is hop-by-hop, destination options, and then UDP.
+ * A header has 8 bytes. With +2 it has 16 more, and its length says so; with >2 its length says so alone. With ! its
+ * byte 3 is 1, which in routing is a segment left. */
+
+#define EIGHT "60 43 60 43 60 43 60 43 "
+#define SEVEN "43 60 43 60 43 60 43 "
+
+/* Puts these headers between, which leaves a good packet good. Answers its length. */
+static size_t lead(uint8_t *packet, size_t len, const char *text)
+{
+    static uint8_t message[SPACE];
+    size_t at = 40, left = len - 40;
+    uint8_t *name = packet + 6;
+    memcpy(message, packet + 40, left);
+    for (char *rest = (char *)text;; text = rest) {
+        unsigned number = (unsigned)strtoul(text, &rest, 10), size = 0, says = 0, mark = number == 43 ? 0 : 0xEE;
+        *name = (uint8_t)number;
+        if (*rest == '\0')
+            break;
+        if (*rest == '+')
+            size = says = (unsigned)strtoul(rest + 1, &rest, 10);
+        if (*rest == '>')
+            says = (unsigned)strtoul(rest + 1, &rest, 10);
+        if (*rest == '!')
+            mark = 1, rest++;
+        name = packet + at;
+        for (size_t i = 0; i < 8 + 8 * size; i++)
+            name[i] = (uint8_t)(at * 29 + i * 7 + 3);
+        name[1] = (uint8_t)says;
+        name[3] = (uint8_t)mark;
+        at += 8 + 8 * size;
+    }
+    memcpy(packet + at, message, left);
+    put(packet + 4, at + left - 40);
+    return at + left;
+}
+
+/* p becomes a packet behind these headers, with so many bytes of message. */
+static size_t behind(const char *text, size_t message)
+{
+    const char *last = strrchr(text, ' ');
+    size_t len = packet_of(p, 6, (unsigned)strtoul(last ? last : text, NULL, 10), message);
+    return lead(p, len, text);
+}
+
+/* Eight headers of the longest, 16,384 bytes. */
+#define LONGEST "0+255 60+255 60+255 43+255 60+255 43+255 60+255 60+255 "
+
+/* Headers between that are right, with the longest and as many as there may be, and in any order. */
+static const char *const between[] = {
+    "0 ", "60 ", "43 ", "0 60 ", "0 43 ", "60 43 ", "43 60 ", "60 60 ", "43 43 ", "0 60 43 60 ", "0+1 ", "43+2 ",
+    "60+31 ", "0+255 ", "60+255 43 ", "43 60+255 ", "0! ", "60! ", "60 60! 43+4 ", EIGHT, "0 43 60 43 60 43 60 43 ",
+    "0+2 60+1 43+2 60 43 60 43+4 60 ", LONGEST,
+};
+enum { BETWEEN = sizeof between / sizeof *between };
+static const char *const follows[] = {"6", "17", "58"};
+
+/* p becomes a good packet behind these headers: its field is that of the packet without them. */
+static size_t good_behind(size_t which, size_t follow, size_t message)
+{
+    char text[128];
+    size_t len = packet_of(p, 6, (unsigned)strtoul(follows[follow], NULL, 10), message);
+    freshen(p);
+    snprintf(text, sizeof text, "%s%s", between[which], follows[follow]);
+    return lead(p, len, text);
+}
+
+/* What of p, which is good, is judged: bytes of the message, and none of a header between that a walk doesn't read. */
+static void judged_behind(size_t len)
+{
+    size_t start = start_of(p), end = start + message_of(p), step = 1 + (end - start) / 12;
+    for (size_t at = start; at < end; at += step) {
+        p[at] ^= 0x10;
+        check(judge(p, len) != 0, "a byte of the message is judged");
+        p[at] ^= 0x10;
+    }
+    for (size_t at = 40; at < start; at += 8 + 8u * p[at + 1])
+        for (size_t i = 4; i < 8; i++) {
+            p[at + i] ^= 0x10;
+            expect(judge(p, len), 0, "a byte of a header between isn't");
+            p[at + i] ^= 0x10;
+        }
+    p[end - 1] ^= 0x10;
+    expect(judge(p, len), 9, "the last byte of the message is judged");
+    p[end - 1] ^= 0x10;
+}
+
+/* Each call on p, which is good. The bytes wanted are those of q, whose field is worked out here. */
+static void each_behind(size_t len)
+{
+    size_t body = body_of(p), room = start_of(p) + message_of(p) - body, place = room / 3, some = room - place;
+    some = some < sizeof new_bytes ? some : sizeof new_bytes;
+    memcpy(q, p, len);
+    freshen(q);
+    check(memcmp(p, q, len) == 0, "no sum covers headers between");
+    expect(judge(p, len), 0, "judge a message behind headers");
+    put(p + field_of(p), 0x1234);
+    expect(judge(p, len), 9, "a wrong field");
+    expect(mend(p, len), 0, "mend it");
+    check(memcmp(p, q, len) == 0, "what mending gives");
+    expect(lower(p, len), 0, "lower it");
+    q[7]--;
+    check(memcmp(p, q, len) == 0, "what lowering gives");
+    for (size_t side = 0; side < 2; side++) {
+        expect(call(ADDRESS, p, len, side, new_bytes + side, 16), 0, "a new address");
+        memcpy(q + 8 + side * 16, new_bytes + side, 16);
+        freshen(q);
+        check(memcmp(p, q, len) == 0, "what a new address gives");
+    }
+    expect(call(ADDRESS, p, len, 2, new_bytes, 16), 10, "side 2");
+    expect(call(STRETCH, p, len, place, new_bytes, some), 0, "a stretch");
+    memcpy(q + body + place, new_bytes, some);
+    freshen(q);
+    check(memcmp(p, q, len) == 0, "what a stretch gives");
+    expect(call(STRETCH, p, len, room, NULL, 0), 0, "nothing at the body's end");
+    expect(call(STRETCH, p, len, room, new_bytes, 1), 10, "a stretch behind it");
+    expect(call(STRETCH, p, len, room + 1, NULL, 0), 10, "nothing behind it");
+    expect(judge(p, len), 0, "judge what was edited");
+}
+
+/* Every call behind each of these, with messages that are just whole, and longer, with a tail and without. */
+static void headers_between(void)
+{
+    static const size_t fixed[] = {20, 8, 4}, more[] = {0, 1, 2, 33, 90};
+    for (size_t i = 0; i < BETWEEN * 3 * 5; i++) {
+        size_t follow = i / 5 % 3, tail = i % 2 * 7;
+        size_t len = good_behind(i / 15, follow, fixed[follow] + more[i % 5]);
+        memset(p + len, 0xEE, tail);
+        judged_behind(len + tail);
+        each_behind(len + tail);
+        if (follow == 1) {
+            put(p + field_of(p), 0);
+            passed_over(len + tail, 8);
+            expect(mend(p, len + tail), 0, "mend no sum behind headers");
+            freshen(q);
+            q[7] = p[7];
+            check(memcmp(p, q, len) == 0, "what mending gives");
+        }
+    }
+}
+
+/* Datagrams that end before their message does, and whose lengths don't fit it, behind headers. */
+static void datagrams_behind(void)
+{
+    for (size_t i = 0; i < BETWEEN * 7; i++) {
+        size_t len = good_behind(i / 7, 1, 40), start = start_of(p), payload = len - 40;
+        size_t said[] = {8, 9, 30, 39, 7, 41, payload};
+        put(p + start + 4, said[i % 7]);
+        if (said[i % 7] < 8 || said[i % 7] > 40) {
+            passed_over(len, 4);
+            continue;
+        }
+        freshen(p);
+        each_call(len);
+        end_of_body(len);
+    }
+}
+
+/* What a walk doesn't get past, or to no message that can be judged: headers, how many bytes follow them, and the
+ * verdict. The first that is met counts. */
+static const struct {
+    const char *text;
+    size_t left;
+    unsigned verdict;
+} stopped[] = {
+    /* a fragment header, also with no bytes left, and as the ninth */
+    {"44", 0, 6}, {"44", 1, 6}, {"44", 7, 6}, {"44", 8, 6}, {"44", 30, 6}, {"44 17", 12, 6}, {"44>255 17", 12, 6},
+    {"0 44 17", 12, 6}, {"0 44", 0, 6}, {"60 44", 3, 6}, {"43+2 44", 0, 6}, {"0 60 43 44", 9, 6}, {"60>1 44", 8, 6},
+    {EIGHT "44", 0, 6}, {EIGHT "44", 8, 6}, {EIGHT "44 17", 12, 6}, {EIGHT "44>255! 17", 12, 6},
+    {"0 " SEVEN "44", 0, 6},
+    /* hop-by-hop that comes late, also with no bytes left, past the end, or before a fragment header */
+    {"60 0 17", 12, 7}, {"0 0 17", 12, 7}, {"0 60 0 17", 12, 7}, {"43 0 58", 8, 7}, {"60 0", 0, 7}, {"60 0", 5, 7},
+    {"60 0", 8, 7}, {"0 0", 0, 7}, {"60 0>9 17", 12, 7}, {"60 0>255! 17", 12, 7}, {"60 0 44", 8, 7}, {"60>1 0", 8, 7},
+    {SEVEN "0 17", 12, 7}, {EIGHT "0 17", 12, 7}, {EIGHT "0", 0, 7},
+    /* a ninth, of which hop-by-hop may be the first; also with no bytes left, past the end, with segments left */
+    {EIGHT "60 17", 12, 7}, {EIGHT "43 17", 12, 7}, {"0 " SEVEN "60 17", 12, 7}, {"0 " SEVEN "43 6", 20, 7},
+    {EIGHT "60", 0, 7}, {EIGHT "43", 7, 7}, {EIGHT "60", 8, 7}, {EIGHT "60>255 17", 12, 7}, {EIGHT "43>2! 17", 12, 7},
+    {EIGHT "43! 17", 12, 7}, {EIGHT "60 44", 8, 7}, {EIGHT "60 60 17", 12, 7},
+    /* fewer than 8 bytes left, or an end past the payload's, by one byte and by many; also with segments left */
+    {"0", 0, 4}, {"0", 1, 4}, {"0", 2, 4}, {"0", 7, 4}, {"43", 0, 4}, {"43", 3, 4}, {"43", 4, 4}, {"43", 7, 4},
+    {"60", 0, 4}, {"60", 7, 4}, {"0 60", 0, 4}, {"0 43", 6, 4}, {SEVEN "60", 7, 4}, {"60>1 17", 7, 4},
+    {"60>1 17", 1, 4}, {"0>2 17", 15, 4}, {"43>2 58", 15, 4}, {"0>255 17", 12, 4}, {"60>255 17", 2039, 4},
+    {"0 60>3 17", 20, 4},
+    {SEVEN "60>1 17", 7, 4}, {"60>2 44", 15, 4}, {"60>2 0", 15, 4}, {"43>1! 17", 7, 4}, {"43>255! 17", 12, 4},
+    {"0 43>2! 44", 8, 4}, {"60>1 60", 8, 4}, {"60>1 43", 8, 4},
+    /* segments left, in a header that ends with the payload too, and before what else would be refused */
+    {"43! 17", 12, 7}, {"0 43! 17", 12, 7}, {"60 43+2! 17", 12, 7}, {"43>1! 17", 8, 7}, {"43! 44", 8, 7},
+    {"43! 44", 0, 7}, {"43! 60", 0, 7}, {"43! 0", 0, 7}, {"43! 43>9! 17", 12, 7}, {"43! 17", 0, 7},
+    {SEVEN "43! 60 17", 12, 7},
+    /* another end of the walk than a protocol that is covered */
+    {"0 59", 0, 7}, {"60 59", 12, 7}, {"60 1", 12, 7}, {"43 50", 30, 7}, {"60 51", 30, 7}, {"60 135", 30, 7},
+    {"0 41", 60, 7}, {"60 4", 60, 7}, {"60 255", 2, 7}, {EIGHT "59", 0, 7}, {EIGHT "51", 12, 7}, {"60>1 59", 8, 7},
+    /* and messages that are too short, also where nothing is left of them */
+    {"0 17", 0, 4}, {"0 17", 7, 4}, {"60 6", 0, 4}, {"60 6", 19, 4}, {"43 58", 0, 4}, {"43 58", 3, 4},
+    {"60>1 17", 8, 4}, {"60>1 58", 8, 4}, {"0>255 6", 2040, 4}, {EIGHT "17", 0, 4}, {EIGHT "17", 7, 4},
+    {EIGHT "58", 3, 4},
+};
+enum { STOPPED = sizeof stopped / sizeof *stopped };
+
+/* Every call on p, whose payload ends where memory that can't be touched begins, though more is lent. */
+static void before_wall(size_t len, unsigned verdict)
+{
+    static const size_t behind[] = {0, 1, 8, 5000};
+    uint8_t *at = first.map + SPACE - len;
+    memcpy(at, p, len);
+    at[7] = 1;
+    for (size_t i = 0; i < 4; i++) {
+        size_t lent = len + behind[i], count = 77;
+        uint8_t judged = 77;
+        expect(hifrostum_judge(at, lent), verdict, "judge before a wall");
+        expect(hifrostum_mend(at, lent), verdict, "mend before a wall");
+        expect(hifrostum_set_address(at, lent, 0, new_bytes, 16), verdict, "a new source before a wall");
+        expect(hifrostum_set_address(at, lent, 2, new_bytes, 0), verdict, "side 2 before a wall");
+        expect(hifrostum_set_stretch(at, lent, 0, new_bytes, 1), verdict, "a stretch before a wall");
+        expect(hifrostum_set_stretch(at, lent, SIZE_MAX, NULL, 0), verdict, "no stretch before a wall");
+        expect(hifrostum_lower_lifetime(at, lent), 11, "a lifetime of 1 before a wall");
+        at[7] = p[7];
+        check(memcmp(at, p, len) == 0, "a refused call's bytes");
+        at[7] = 2;
+        expect(hifrostum_lower_lifetime(at, lent), 0, "lower before a wall");
+        expect(at[7], 1, "one less");
+        if (lent > 2048)
+            continue;
+        memcpy(at - 7, glr, 5);
+        put(at - 2, lent);
+        expect(hifrostum_judge_capture(at - 7, 7 + lent, &judged, 1, &count), 0, "a capture before a wall");
+        expect(count, 1, "its count");
+        expect(judged, verdict, "its verdict");
+    }
+}
+
+/* Each of these, as it stands and with what it lacks behind the packet. */
+static void stopped_walks(void)
+{
+    for (size_t i = 0; i < STOPPED; i++) {
+        size_t len = behind(stopped[i].text, stopped[i].left);
+        passed_over(len, stopped[i].verdict);
+        before_wall(len, stopped[i].verdict);
+        for (size_t at = len; at < len + 2100; at++)
+            p[at] = (uint8_t)(at % 3 ? 0 : 60);
+        passed_over(len + 2100, stopped[i].verdict);
+    }
+}
+
+/* Good messages behind headers, which lie before memory that can't be touched though more is lent. */
+static void untouched_behind(void)
+{
+    for (size_t i = 0; i < BETWEEN * 3 * 3; i++) {
+        size_t len = good_behind(i / 9, i / 3 % 3, 60), lent = len + i % 3 * 1000, body = body_of(p), count = 77;
+        uint8_t *at = first.map + SPACE - len, verdict = 77;
+        memcpy(at, p, len);
+        put(at + field_of(at), 0x1234);
+        expect(hifrostum_judge(at, lent), 9, "judge behind headers, before a wall");
+        expect(hifrostum_mend(at, lent), 0, "mend there");
+        check(memcmp(at, p, len) == 0, "what mending gives");
+        expect(hifrostum_lower_lifetime(at, lent), 0, "lower there");
+        expect(hifrostum_set_address(at, lent, 1, new_bytes, 16), 0, "a new destination there");
+        expect(hifrostum_set_stretch(at, lent, len - body - 33, new_bytes, 33), 0, "a stretch there");
+        p[7]--;
+        memcpy(p + 24, new_bytes, 16);
+        memcpy(p + len - 33, new_bytes, 33);
+        freshen(p);
+        check(memcmp(at, p, len) == 0, "what these give");
+        if (lent > 2048)
+            continue;
+        memcpy(at - 7, glr, 5);
+        put(at - 2, lent);
+        expect(hifrostum_judge_capture(at - 7, 7 + lent, &verdict, 1, &count), 0, "a capture of it");
+        expect(verdict, 0, "its verdict");
+    }
+}
+
+/* A message whose field would be right if the pseudo-header had another length, protocol or destination, or the headers
+ * were summed: it is wrong, an edit leaves it so, and the mender doesn't. */
+static void misread_between(void)
+{
+    for (size_t i = 0; i < BETWEEN * 3 * 4; i++) {
+        size_t len = good_behind(i / 12, i / 4 % 3, 50), start = start_of(p), field = field_of(p);
+        unsigned protocol = protocol_of(p), sum;
+        unsigned long others[] = {start - 40, weigh(p + 40, start - 40), p[6] + 65535ul - protocol,
+                                  weigh(p + start - 16, 16) + 65535ul * 16 - weigh(p + 24, 16)};
+        if (others[i % 4] % 65535 == 0)
+            continue;
+        put(p + field, 0);
+        sum = fold(message_sum(p) + others[i % 4]);
+        put(p + field, protocol == 17 ? field_for(sum) : 65535 - sum);
+        expect(judge(p, len), 9, "judge a sum that is right if headers between are misread");
+        expect(lower(p, len), 0, "lower it");
+        expect(call(ADDRESS, p, len, 0, new_bytes, 16), 0, "a new source");
+        expect(call(STRETCH, p, len, 0, new_bytes, 1), 0, "a stretch");
+        expect(judge(p, len), 9, "it stays wrong");
+        memcpy(q, p, len);
+        freshen(q);
+        expect(mend(p, len), 0, "mend it");
+        check(memcmp(p, q, len) == 0, "what mending gives");
+    }
+}
+
+/* Edits in turn, refused ones among them, on good and on damaged messages behind headers, and on what a walk doesn't
+ * get past. The verdict stays, no byte of the headers changes, and a right sum stays right. */
+static void edits_behind(void)
+{
+    unsigned state = 1;
+    for (size_t i = 0; i < BETWEEN * 3 * 2 + STOPPED; i++) {
+        static uint8_t headers[SPACE];
+        int stops = i >= BETWEEN * 6, damaged = !stops && i % 2;
+        size_t walk = i - BETWEEN * 6;
+        size_t len = stops ? behind(stopped[walk].text, stopped[walk].left) : good_behind(i / 6, i / 2 % 3, 57);
+        size_t start = stops ? len : start_of(p), body = stops ? 0 : len - body_of(p);
+        unsigned verdict = stops ? stopped[walk].verdict : damaged ? 9 : 0;
+        p[start + 1] ^= damaged ? 0x20 : 0;
+        memcpy(headers, p + 40, start - 40);
+        for (size_t turn = 0; turn < 24; turn++) {
+            state = state * 1664525 + 1013904223;
+            size_t number = state >> 24, size = state >> 16 & 31, side = number % 3, place = number % 60;
+            unsigned fits = stops ? verdict : turn % 3 == 1 ? (side < 2 ? 0 : 10) : place + size <= body ? 0 : 10;
+            if (turn % 3 == 0)
+                expect(lower(p, len), 0, "lower in turn");
+            else if (turn % 3 == 1)
+                expect(call(ADDRESS, p, len, side, new_bytes + size, 16), fits, "an address in turn");
+            else
+                expect(call(STRETCH, p, len, place, new_bytes + number % 90, size), fits, "a stretch in turn");
+            expect(judge(p, len), verdict, "the verdict stays");
+            check(memcmp(p + 40, headers, start - 40) == 0, "the headers stay");
+        }
+        expect(p[7], 64 - 8, "the lifetime");
+        if (verdict == 0) {
+            memcpy(q, p, len);
+            freshen(q);
+            check(memcmp(p, q, len) == 0, "the field is the fresh one");
+        }
+    }
+}
+
+/* A capture with headers between in each packet, one that ends inside them and one that lacks its last byte. */
+static void captures_behind(void)
+{
+    enum { PACKETS = STOPPED + BETWEEN + 2 };
+    static uint8_t packets[SPACE], want[PACKETS], got[PACKETS + 1];
+    size_t end = 5, count = 0;
+    memcpy(packets, glr, 5);
+    for (size_t i = 0; i < PACKETS; i++) {
+        size_t good = i - STOPPED, cut = good == BETWEEN ? 43 : good == BETWEEN + 1;
+        size_t len = i < STOPPED ? behind(stopped[i].text, stopped[i].left) : good_behind(good % BETWEEN, i % 3, 40);
+        if (len > 2048)
+            continue;
+        put(packets + end, len - cut);
+        memcpy(packets + end + 2, p, len - cut);
+        want[count++] = (uint8_t)(i < STOPPED ? stopped[i].verdict : cut > 0 ? 2 : 0);
+        end += 2 + len - cut;
+    }
+    capture(packets, end, got, count + 1, 0, count);
+    for (size_t i = 0; i < count; i++)
+        expect(got[i], want[i], "a record with headers between");
+    capture(packets, end, got, count - 1, 16, 0);
+}
+
 static void captures(void)
 {
     static uint8_t verdicts[9];
@@ -1366,7 +1760,8 @@ static void long_capture(void)
     capture(p, len - 1, verdicts, 0, 15, 0);
 }
 
-/* The largest packets that the formats allow, some with a tail inside, each with a tail behind and without. */
+/* The largest packets that the formats allow, some with a tail inside, and some behind all headers that there may be,
+ * each with a tail behind and without. */
 static void largest(void)
 {
     static const uint8_t new[16] = {0xFD, 7, [15] = 3};
@@ -1377,13 +1772,18 @@ static void largest(void)
         int family;
         unsigned protocol;
         size_t message, fixed, inside;
-    } kinds[] = {{4, 1, 65515, 8, 0}, {4, 6, 65515, 20, 0}, {4, 17, 65515, 8, 0}, {4, 17, 65515, 8, 1},
-                 {4, 17, 65515, 8, 65000}, {6, 6, 65535, 20, 0}, {6, 17, 65535, 8, 0}, {6, 17, 65535, 8, 1},
-                 {6, 17, 65535, 8, 65000}, {6, 58, 65535, 4, 0}};
+        const char *behind;
+    } kinds[] = {{4, 1, 65515, 8, 0, NULL}, {4, 6, 65515, 20, 0, NULL}, {4, 17, 65515, 8, 0, NULL},
+                 {4, 17, 65515, 8, 1, NULL}, {4, 17, 65515, 8, 65000, NULL}, {6, 6, 65535, 20, 0, NULL},
+                 {6, 17, 65535, 8, 0, NULL}, {6, 17, 65535, 8, 1, NULL}, {6, 17, 65535, 8, 65000, NULL},
+                 {6, 58, 65535, 4, 0, NULL}, {6, 6, 65535 - 16384, 20, 0, LONGEST "6"},
+                 {6, 17, 65535 - 16384, 8, 0, LONGEST "17"}, {6, 17, 65535 - 16384, 8, 48000, LONGEST "17"},
+                 {6, 58, 65535 - 16384, 4, 0, LONGEST "58"}, {6, 58, 65535 - 8, 4, 0, "60 58"}};
     for (size_t i = 0; i < 2 * sizeof kinds / sizeof *kinds; i++) {
         size_t message = kinds[i / 2].message, inside = kinds[i / 2].inside;
         size_t body_len = message - kinds[i / 2].fixed - inside;
         size_t len = packet_of(p, kinds[i / 2].family, kinds[i / 2].protocol, message);
+        len = kinds[i / 2].behind ? lead(p, len, kinds[i / 2].behind) : len;
         size_t tail = i % 2 ? 100000 : 0, end = len - inside;
         int kept = 1;
         if (inside > 0)
@@ -1455,6 +1855,14 @@ int main(void)
     untouched();
     tail_captures();
     group("datagrams before a tail");
+    headers_between();
+    datagrams_behind();
+    stopped_walks();
+    untouched_behind();
+    misread_between();
+    edits_behind();
+    captures_behind();
+    group("headers between");
     captures();
     long_capture();
     group("judge_capture");

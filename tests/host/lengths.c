@@ -106,6 +106,40 @@ static void packets(void)
     }
 }
 
+/* UDP behind hop-by-hop and destination options, with a tail that can't be touched. The low 32 bits say 0 or 50 bytes:
+ * cut. A header that passes the payload's end is refused, however much is lent. */
+static void headers_between(void)
+{
+    static const uint8_t good[67] = {
+        0x60, 0, 0, 0, 0, 27, 0, 64, [23] = 1, [39] = 1, 60, 0, 1, 4, 0, 0, 0, 0, 17, 0, 1, 4, 0, 0, 0, 0,
+        0x13, 0x88, 0x13, 0x89, 0, 11, 0x6F, 0x5C, 0x48, 0x69, 0x21,
+    };
+    static const size_t tails[] = {0, 50};
+    uint8_t *p = before_wall(67);
+    for (size_t i = 0; i < 2; i++) {
+        size_t len = over + tails[i];
+        memcpy(p, good, 67);
+        expect(hifrostum_judge(p, len), 0, "judge behind headers");
+        p[62] = 0x55;
+        expect(hifrostum_mend(p, len), 0, "mend behind headers");
+        expect((unsigned)memcmp(p, good, 67), 0, "what mending gives");
+        expect(hifrostum_set_address(p, len, 1, good + 8, 16), 0, "the same destination");
+        expect(hifrostum_set_stretch(p, len, 2, good + 66, 1), 0, "the same stretch");
+        expect(hifrostum_set_stretch(p, len, 2, good + 65, 2), 10, "a stretch past the body");
+        expect((unsigned)memcmp(p, good, 67), 0, "what these give");
+        p[49] = 2;
+        expect(hifrostum_judge(p, len), 4, "a header past the payload's end");
+        expect(hifrostum_mend(p, len), 4, "mend it");
+        p[5] = 16;
+        p[49] = 0;
+        p[48] = 60;
+        expect(hifrostum_judge(p, len), 4, "a header of which nothing is left");
+        p[48] = 44;
+        expect(hifrostum_judge(p, len), 6, "a fragment header of which nothing is left");
+        expect(hifrostum_lower_lifetime(p, len), 0, "lower its lifetime");
+    }
+}
+
 /* A capture whose first record is too long. The low 32 bits say 5 bytes: no record. */
 static void captures(void)
 {
@@ -240,6 +274,7 @@ int main(int argc, char **argv)
         return 2;
     }
     packets();
+    headers_between();
     captures();
     chains();
     block(len);
