@@ -14,7 +14,7 @@
 
 #include "hifrostum.h"
 
-enum { LONGEST = 2048, VERDICTS = HIFROSTUM_ROOM + 1, FRAGMENT_HEADER = 44 };
+enum { LONGEST = 2048, VERDICTS = HIFROSTUM_ROOM + 1 };
 
 static const char *const names[VERDICTS] = {
     "good", "unsummed", "cut", "version", "shape", "header sum", "fragment", "uncovered", "missing",
@@ -48,23 +48,14 @@ static int read_address(const char *text, struct address *to)
     return to->len == 4 || inet_pton(AF_INET6, text, to->bytes) == 1;
 }
 
-/* Whether a packet with this verdict is a fragment. Of IPv4 the judge says so, once the header's sum
- * has passed. Over IPv6, which has no such sum, it doesn't look behind a fragment header yet and says
- * uncovered: then the whole IP header is there, and the next header is its byte 6. */
-static int is_fragment(const uint8_t *packet, uint8_t verdict)
-{
-    if (verdict == HIFROSTUM_UNCOVERED)
-        return packet[0] >> 4 == 6 && packet[6] == FRAGMENT_HEADER;
-    return verdict == HIFROSTUM_FRAGMENT;
-}
-
 /* Makes one packet ready to be sent on, in place: the verdict, a refusal where it is not to be sent.
  * Judge first. The edits update sums and don't look whether these were right.
- * A fragment keeps its destination: the field that covers it stands in the first fragment alone. */
+ * A fragment keeps its destination: the field that covers it stands in the first fragment alone. Of
+ * IPv4 the judge says fragment once the header's sum has passed; IPv6 has no such sum. */
 static uint8_t relay(uint8_t *packet, size_t len, const struct address *to, int *fragment)
 {
     uint8_t verdict = hifrostum_judge(packet, len);
-    *fragment = is_fragment(packet, verdict);
+    *fragment = verdict == HIFROSTUM_FRAGMENT;
     if (verdict > HIFROSTUM_UNSUMMED && !*fragment)
         return verdict;
     verdict = hifrostum_lower_lifetime(packet, len);

@@ -80,7 +80,7 @@ bytes "$(echo "$echo4" | sed 's/40 01 66DF/3F 01 67DF/')" >"$dir/want"
 same 'IPv6: an IPv4 packet' "$(od -An -tx1 -v "$dir/want")" "$(tail -c +8 "$dir/out" | head -c 28 | od -An -tx1 -v)"
 
 # Fragments: a datagram of 29 bytes in three, over each family. They go on with their destination, whichever the hut
-# sets, and the verdict on each stays: 6 over IPv4; over IPv6 7, as the judge doesn't look behind their header.
+# sets, and the verdict on each stays: 6 over both.
 from4='C0A80001 C0A800C7' begin='1388 1389 001D' text='616C746974756465' more='2031323030206D65' rest='7472657321'
 first4="4500 0024 0007 2000 40 11 D8A9 $from4 $begin BD0C $text"
 middle4="4500 001C 0007 2002 40 11 D8AF $from4 $more"
@@ -91,9 +91,9 @@ last6="60000000 000D 2C 40 $one $one 1100 0018 00000007 $rest"
 verdicts='record 1 verdict 6
 record 2 verdict 6
 record 3 verdict 6
-record 4 verdict 7
-record 5 verdict 7
-record 6 verdict 7
+record 4 verdict 6
+record 5 verdict 6
+record 6 verdict 6
 record 7 verdict 6
 records 7 good 0 unsummed 0 refused 7'
 # the last has a tail, which stays
@@ -118,8 +118,9 @@ hut: records 7 relayed 7 dropped 0' "$(cat "$dir/said")"
 done
 
 # What drops a fragment: bytes that are missing, lengths of the IP header, its sum, a spent lifetime. And what is none:
-# protocol 44 over IPv4, and over IPv6 another header, also with a fragment header behind it. A whole packet among them
-# goes where the others go.
+# protocol 44 over IPv4, and over IPv6 another number, here with segments left. A fragment behind a hop-by-hop header is
+# one. A whole packet among them goes where the others go.
+behind6="60000000 0018 00 40 $one $one 2C00 0104 00000000 1100 0011 00000007 $more"
 bytes "$head" \
     0018 "4500 0019 0007 0003 40 11 F8B1 $from4 74726573" \
     0034 "60000000 000D 2C 40 $one $one 1100 0018 00000007 74726573" \
@@ -133,18 +134,18 @@ bytes "$head" \
     0035 "$(echo "$last6" | sed 's/2C 40/2C 00/')" \
     0019 "$(echo "$last4" | sed 's/0003 40 11 F8B1/0000 40 2C F899/')" \
     0038 "$(echo "$middle6" | sed 's/2C 40/2B 40/')" \
-    0040 "60000000 0018 00 40 $one $one 2C00 0104 00000000 1100 0011 00000007 $more" \
-    0024 "$first4" 001C "$echo4" >"$dir/in"
+    0040 "$behind6" 0024 "$first4" 001C "$echo4" >"$dir/in"
 relay 10.0.0.9
 same 'dropped fragments: exit status' 0 "$status"
 same 'dropped fragments: what it says' 'hut: dropped 2: cut
 hut: dropped 2: shape
 hut: dropped 2: header sum
-hut: dropped 3: uncovered
+hut: dropped 2: uncovered
 hut: dropped 4: spent
-hut: relayed 1: fragments, destination kept
-hut: records 15 relayed 2 dropped 13' "$(cat "$dir/said")"
+hut: relayed 2: fragments, destination kept
+hut: records 15 relayed 3 dropped 12' "$(cat "$dir/said")"
 bytes "$head" \
+    0040 "$(echo "$behind6" | sed 's/00 40/00 3F/')" \
     0024 "$(echo "$first4" | sed 's/40 11 D8A9/3F 11 D9A9/')" \
     001C "$(echo "$echo4" | sed 's/40 01 66DF/3F 01 67D8/; s/0A000002/0A000009/')" >"$dir/want"
 same 'dropped fragments: what it writes' "$(od -An -tx1 -v "$dir/want")" "$(od -An -tx1 -v "$dir/out")"
@@ -205,6 +206,68 @@ same 'dropped trailing areas: what it says' 'hut: dropped 2: shape
 hut: dropped 1: missing
 hut: dropped 3: message sum
 hut: records 6 relayed 0 dropped 6' "$(cat "$dir/said")"
+
+# A recorder that puts options before UDP: hop-by-hop, destination options (also longer ones), both, or a routing header
+# whose segments are done; one datagram has a trailing area, and one message is an echo. The headers go on as they came.
+text6='1388 1389 000B 6F5C 486921' pad='0104 00000000' to6=20010DB8000000000000000000000009
+hop6="60000000 0013 00 40 $one $one 1100 $pad $text6"
+options6="60000000 0013 3C 40 $one $one 1100 $pad $text6"
+longer6="60000000 001B 3C 40 $one $one 1101 010C 000000000000000000000000 $text6"
+both6="60000000 001B 00 40 $one $one 3C00 $pad 1100 $pad $text6"
+routed6="60000000 0023 2B 40 $one $one 1102 0400 00000000 FD000000000000000000000000000007 $text6"
+trailing6="60000000 0016 00 40 $one $one 1100 $pad $text6 FF0055"
+behind6="60000000 0010 3C 40 $one $one 3A00 $pad 8000 7FB9 0001 0001"
+verdicts='record 1 verdict 0
+record 2 verdict 0
+record 3 verdict 0
+record 4 verdict 0
+record 5 verdict 0
+record 6 verdict 0
+record 7 verdict 0
+records 7 good 7 unsummed 0 refused 0'
+# Writes the capture of these, changed by sed.
+recorded() { # SED
+    for packet in 3B "$hop6" 3B "$options6" 43 "$longer6" 43 "$both6" 4B "$routed6" 3E "$trailing6" 38 "$behind6"; do
+        case $packet in
+        ??) bytes "00$packet" ;;
+        *) bytes "$(echo "$packet" | sed "$1")" ;;
+        esac
+    done
+}
+{ bytes "$head" && recorded ''; } >"$dir/in"
+{ bytes "$head" && recorded 's/ 40 / 3F /'; } >"$dir/want4"
+{ bytes "$head" && recorded "s/ 40 / 3F /; s/$one $one/$one $to6/; s/6F5C/419B/; s/7FB9/51F8/"; } >"$dir/want6"
+same 'headers between: judged before' "$verdicts" "$("$x86" run "$judge_capture" <"$dir/in")"
+for to in 4:10.0.0.9 6:2001:db8::9; do
+    relay "${to#*:}"
+    same "headers between, IPv${to%%:*}: exit status" 0 "$status"
+    same "headers between, IPv${to%%:*}: what it says" 'hut: records 7 relayed 7 dropped 0' "$(cat "$dir/said")"
+    same "headers between, IPv${to%%:*}: what it writes" \
+        "$(od -An -tx1 -v "$dir/want${to%%:*}")" "$(od -An -tx1 -v "$dir/out")"
+    same "headers between, IPv${to%%:*}: judged" "$verdicts" "$("$x86" run "$judge_capture" <"$dir/out")"
+done
+
+# What drops such a packet: a header that passes the payload's end, hop-by-hop that comes late, segments left, a ninth
+# header, another protocol behind them, no sum, a damaged message; and sums that would be right with the payload's length
+# or with hop-by-hop as the protocol.
+nine=$(for _ in 1 2 3 4 5 6 7 8; do echo "3C00 $pad"; done)
+bytes "$head" \
+    003B "$(echo "$hop6" | sed 's/1100 0104/1102 0104/')" \
+    0043 "$(echo "$both6" | sed 's/001B 00/001B 3C/; s/3C00/0000/')" \
+    004B "$(echo "$routed6" | sed 's/0400/0401/')" \
+    007B "60000000 0053 3C 40 $one $one $nine 1100 $pad $text6" \
+    003B "$(echo "$hop6" | sed 's/1100 0104/3B00 0104/')" \
+    003B "$(echo "$options6" | sed 's/6F5C/0000/')" \
+    003B "$(echo "$options6" | sed 's/486921/486920/')" \
+    003B "$(echo "$hop6" | sed 's/6F5C/6F54/')" \
+    003B "$(echo "$hop6" | sed 's/6F5C/6F6D/')" >"$dir/in"
+relay 2001:db8::9
+same 'dropped headers between: exit status' 0 "$status"
+same 'dropped headers between: what it says' 'hut: dropped 1: shape
+hut: dropped 4: uncovered
+hut: dropped 1: missing
+hut: dropped 3: message sum
+hut: records 9 relayed 0 dropped 9' "$(cat "$dir/said")"
 
 # Damaged input: said in words, exit status 1, and what was relayed before is a whole capture.
 damaged() { # WORDS HEX..
