@@ -16,7 +16,6 @@ use Rattle.wire.specs.Bytes.{byteAt, wordAt}
 use Rattle.wire.specs.Outer.{four, versionOf, familyOf, headerEnd, declaredEnd, outerRules}
 use Rattle.wire.specs.Walk.{reached, walkOf, walkRules, protocolIn, startIn}
 use Rattle.wire.specs.Inner.{protocolOf, startOf, carriedOf, endOf, lengthOf, messageBytes, silentOf, messageRules, addressesOf}
-use Rattle.wire.specs.Stripped.{stripped}
 use Rattle.wire.proofs.Parts.{part-moved, part-same}
 use Rattle.wire.proofs.Writes.{Wrote, put-wrote}
 use Rattle.wire.proofs.Meeting.{message}
@@ -25,6 +24,7 @@ use Rattle.wire.proofs.Facts.{OuterFacts, outer-facts, walk-six, begins, facts}
 use Rattle.wire.proofs.Walks.{walk-arrives, clear-reached}
 use Rattle.cover.specs.Sums.{messageTotal, messageSums}
 use Rattle.judge.specs.Judge.{sumRules, judgeRules, judgeOf}
+use Rattle.judge.specs.Stripped.{stripped}
 use Rattle.judge.proofs.Answers.{sums6}
 
 self : Verdict → Verdict

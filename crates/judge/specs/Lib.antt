@@ -2,3 +2,4 @@
 pub mod Judge
 pub mod Cases
 pub mod Rfc
+pub mod Stripped
