@@ -1,5 +1,5 @@
 -- The walk leads where RFC 8200 says that the extension headers lead, and nothing else does.
-use mathlib.Core.Path.{_≡_, refl, _∙_}
+use mathlib.Core.Path.{_≡_, refl}
 use mathlib.Core.Logic.{inl, inr, ⊎-elim}
 use Prim.Native.Nat.{ℕ, _+_, _*_}
 use native.Mathlib.Omega.{arith}
@@ -13,7 +13,7 @@ use Rattle.wire.specs.Chain as chain
 use Rattle.wire.specs.Inner.{protocolOf, startOf}
 use Rattle.wire.proofs.Facts.{Facts}
 use Rattle.wire.proofs.Walks.{walk-arrives}
-use Rattle.judge.specs.Rfc.{Extension, Leads, there, over, Upper}
+use Rattle.judge.specs.Rfc.{Extension, Leads, there, over}
 
 extension : {n at : ℕ} → Passable n at → Extension n
 extension k = ⊎-elim (λ h. inl (h .0)) inr k

@@ -9,7 +9,7 @@ use Rattle.verdicts.specs.declared.Verdict.{Verdict}
 use Rattle.verdicts.specs.declared.Verdict.the-variants.{Uncovered}
 use Rattle.wire.specs.Bytes.{byteAt}
 use Rattle.wire.specs.Walk.{Way, refused, reached, sizeAt, metOf, going, walkBy, startIn, walkedIn}
-use Rattle.wire.specs.Chain.{Passed, Other, Refusal, Chain, here, over, Closes, refuses, arrives, Ends}
+use Rattle.wire.specs.Chain.{Passed, Refusal, Chain, here, over, Closes, refuses, arrives, Ends}
 use Rattle.wire.specs.Chain as chain
 use Rattle.wire.specs.declared.way.Met.{Met}
 use Rattle.wire.specs.declared.way.Met.the-variants.{Refused, Header, Message}

@@ -1,6 +1,5 @@
 -- Each answer of `wayOf`, from the facts that lead to it, and what the loop keeps.
 use mathlib.Core.Path.{_≡_, refl, sym, ap, _∙_}
-use mathlib.Core.Logic.{_≢_}
 use Prim.Native.Nat.{ℕ, zero, suc, _+_, _-_, _≤_}
 use native.Mathlib.Omega.{arith}
 use mathlib.Core.List.{List}
@@ -10,14 +9,13 @@ use lib.Seq.{length-take-le, getD-take}
 use Rattle.verdicts.specs.declared.Verdict.{Verdict}
 use Rattle.verdicts.specs.declared.Verdict.the-variants.{Fragment}
 use Rattle.wire.specs.Bytes.{byteAt, wordAt}
-use Rattle.wire.specs.Outer.{familyOf, headerEnd, declaredEnd, nextOf, outerOf}
-use Rattle.wire.specs.Walk.{Way, refused, reached, sizeAt, metOf, walkBy, walkOf}
+use Rattle.wire.specs.Outer.{familyOf, declaredEnd, nextOf, outerOf}
+use Rattle.wire.specs.Walk.{Way, reached, sizeAt, metOf, walkBy}
 use Rattle.wire.specs.Chain.{Other}
 use Rattle.wire.specs.Inner.{listed, wayOf}
 use Rattle.wire.specs.declared.Family.the-variants.{Four, Six}
 use Rattle.wire.specs.declared.Header.{Header}
 use Rattle.wire.specs.declared.Frame.the-variants.{Ip}
-use Rattle.wire.specs.declared.Walked.{Walked}
 use Rattle.wire.specs.declared.Walked.the-variants as way
 use Rattle.wire.specs.declared.way.Met.the-variants.{Refused, Header as Met·Header, Message}
 use Rattle.wire.proofs.Meeting.{message, met-passed}

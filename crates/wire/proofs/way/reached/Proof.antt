@@ -1,5 +1,4 @@
 -- In each arm the protocol is the one that it names, and the table is computed.
-use mathlib.Core.Path.{_∙_}
 use native.Mathlib.Omega.{arith}
 use Rattle.wire.specs.Table.{rowOf, nameOf}
 use Rattle.wire.proofs.Lines.{no-row6}
