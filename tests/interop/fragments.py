@@ -1,4 +1,5 @@
 """What a fragment is, and what fragments make together. Read from the RFCs' layouts, and not by our library."""
+from headers import FRAGMENT, walked
 
 
 def number(data):
@@ -6,8 +7,8 @@ def number(data):
 
 
 def is_fragment(data):
-    """Whether an IPv4 packet has more to come or an offset, or an IPv6 one a fragment header."""
-    return number(data[6:8]) & 0x3FFF != 0 if data[0] >> 4 == 4 else data[6] == 44
+    """Whether an IPv4 packet has more to come or an offset, or an IPv6 one a fragment header, behind others or not."""
+    return number(data[6:8]) & 0x3FFF != 0 if data[0] >> 4 == 4 else walked(data)[1] == FRAGMENT
 
 
 class Fragment:
@@ -20,9 +21,10 @@ class Fragment:
             self.offset, self.more, end = 8 * (word & 0x1FFF), word & 0x2000 != 0, number(data[2:4])
             self.source, self.message = data[12:16], data[4:6] + data[9:10] + data[12:20]
         else:
-            word, self.lifetime, self.protocol, self.start = number(data[42:44]), data[7], data[40], 48
+            at = walked(data)[2]
+            word, self.lifetime, self.protocol, self.start = number(data[at + 2:at + 4]), data[7], data[at], at + 8
             self.offset, self.more, end = word & 0xFFF8, word & 1 != 0, 40 + number(data[4:6])
-            self.source, self.message = data[8:24], data[44:48] + data[40:41] + data[8:40]
+            self.source, self.message = data[8:24], data[at + 4:at + 8] + data[at:at + 1] + data[8:40]
         self.piece = data[self.start:end]
 
 

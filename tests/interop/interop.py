@@ -16,6 +16,7 @@ from scapy.packet import Raw
 from scapy.utils import checksum
 
 from fragments import Fragment, is_fragment, messages
+from headers import walked
 from post import HERE, PORT, THERE, Post
 from trailing import right_if_summed, summed_past, with_area, with_areas, with_lengths, with_word
 
@@ -33,15 +34,14 @@ table = []
 
 
 class Packet:
-    """Where things are in a packet that is whole. The message ends with the datagram in UDP; between that and the
-    declared end there may be a trailing area, and behind that a tail."""
+    """Where things are in a packet that is whole. Before the message there may be headers between, over IPv6; it ends
+    with the datagram in UDP; between that and the declared end there may be a trailing area, and behind that a tail."""
 
     def __init__(self, data):
         self.data = data
         self.four = data[0] >> 4 == 4
-        self.start = 4 * (data[0] & 15) if self.four else 40
+        self.headers, self.protocol, self.start = ([], data[9], 4 * (data[0] & 15)) if self.four else walked(data)
         self.declared = int.from_bytes(data[2:4], "big") if self.four else 40 + int.from_bytes(data[4:6], "big")
-        self.protocol = data[9] if self.four else data[6]
         length = int.from_bytes(data[self.start + 4:self.start + 6], "big")
         self.end = self.start + length if self.protocol == 17 else self.declared
         self.covered = self.protocol in ((1, 6, 17) if self.four else (6, 17, 58))
@@ -125,16 +125,18 @@ def delivered(post, packets):
     return [(found.get((len(got), *counts)), got) for got, *counts in post.all_sent(packets)]
 
 
+def layer(packet):
+    """The message as scapy's, its field left open; a UDP field of 0000 over IPv4 is kept."""
+    kinds = {1: ICMP, 6: TCP, 17: UDP, 58: ICMPv6Unknown}  # of ICMPv6 scapy leaves types that it doesn't know unread
+    message = kinds[packet.protocol](packet.data[packet.start:packet.end])
+    if not (packet.four and packet.unsummed):
+        message.delfieldval("cksum" if packet.protocol == 58 else "chksum")
+    return message
+
+
 def rebuilt(packet):
-    """The packet with its fields worked out by scapy, over the message alone; a UDP field of 0000 over IPv4 is kept."""
-    data = packet.data[:packet.end]
-    if packet.protocol == 58:
-        made = IPv6(data[:40]) / ICMPv6Unknown(data[40:])  # scapy leaves types that it doesn't know unread
-        del made.payload.cksum
-    else:
-        made = IP(data) if packet.four else IPv6(data)
-        if not (packet.four and packet.unsummed):
-            del made.payload.chksum
+    """The packet with its fields worked out by scapy, over the message alone."""
+    made = (IP if packet.four else IPv6)(packet.data[:packet.start]) / layer(packet)
     if packet.four:
         made.len = packet.end
     else:
@@ -236,15 +238,26 @@ def frames(path):
 
 
 def kernel_made(path):
-    """The IP packets of a capture."""
-    return [frame[14:] for frame in frames(path) if frame[12:14] in (b"\x08\x00", b"\x86\xdd")]
+    """The IP packets of a capture that tshark can judge."""
+    packets = [frame[14:] for frame in frames(path) if frame[12:14] in (b"\x08\x00", b"\x86\xdd")]
+    return [data for data in packets if not is_full(data)]
 
 
-def kernel_cut(seen, sent):
-    """The fragments that came to our relay, each with what left it for it: nothing if it was refused."""
+def is_full(data):
+    """Whether TCP's field is FFFF: a kernel that sums for its card writes that for 0000, and tshark calls it bad."""
+    packet = Packet(data)
+    return packet.protocol == 6 and data[packet.field:packet.field + 2] == b"\xff\xff"
+
+
+def has_headers(data):
+    return bool(Packet(data).headers)
+
+
+def relayed(seen, sent):
+    """The packets that came to our relay, each with what left it for it: nothing if it was refused."""
     came, left = frames(seen), frames(sent)
     assert len(came) == len(left)
-    return [(before[14:], after[14:]) for before, after in zip(came, left) if is_fragment(before[14:])]
+    return [(before[14:], after[14:]) for before, after in zip(came, left)]
 
 
 # What is tried
@@ -458,7 +471,7 @@ def check_lowered(family, pairs):
     """Fragments that our relay sent on: a lifetime one less, over IPv4 scapy's sum, and the rest as it was."""
     befores, afters = zip(*pairs)
     fields, agreed = ["ip.checksum.status", "ip.ttl", "ipv6.hlim"], 0
-    good, verdict = ("1", FRAGMENT) if family == 4 else ("", UNCOVERED)
+    good = "1" if family == 4 else ""
     rows = zip(pairs, judged(befores), judged(afters), asked(befores, fields), asked(afters, fields))
     for (before, after), was, now, (old, *high), (new, *low) in rows:
         want = bytearray(before)
@@ -467,7 +480,7 @@ def check_lowered(family, pairs):
             want[10:12] = b"\0\0"
             want[10:12] = checksum(bytes(want[:20])).to_bytes(2, "big")
         right = status(old) == status(new) == good and int("".join(low)) == int("".join(high)) - 1
-        if right and was == now == verdict and after == want:
+        if right and was == now == FRAGMENT and after == want:
             agreed += 1
         else:
             disagree(f"a fragment lowered: we say {was} and {now}, tshark {old} {high} and {new} {low}", after)
@@ -683,8 +696,9 @@ def check_posted(post):
 def main():
     made = [scapy_made() for _ in range(MADE)] + [zero_made(i) for i in range(ZEROS)]
     sent = kernel_made(sys.argv[1])
-    kernel = [data for data in sent if Packet(data).covered]
-    others = [data for data in sent if not Packet(data).covered]
+    plain = [data for data in sent if not has_headers(data)]
+    kernel = [data for data in plain if Packet(data).covered]
+    others = [data for data in plain if not Packet(data).covered]
     kinds = {(Packet(data).four, Packet(data).protocol) for data in kernel}
     if not kinds >= {(True, 1), (True, 6), (True, 17), (False, 6), (False, 17), (False, 58)}:
         disagree(f"the kernel's capture has only the kinds {sorted(kinds)}", b"")
@@ -701,7 +715,8 @@ def main():
     check_sums("p", "cut, summed piece by piece and joined", both)
     check_bits(both)
     check_full_bits()
-    check_fragments(kernel_cut(sys.argv[2], sys.argv[3]))
+    pairs = relayed(sys.argv[2], sys.argv[3])
+    check_fragments([pair for pair in pairs if is_fragment(pair[0])])
     check_trailing(made)
     check_posted(Post(sys.argv[4], sys.argv[5]))
     print("| what | packets | agreed |\n|---|---|---|")
