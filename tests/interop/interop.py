@@ -1,9 +1,10 @@
 """Holds the library to tools that nobody here wrote: scapy, the Linux kernel and tshark.
 
-interop.py KERNEL.pcap SEEN.pcap SENT.pcap HERE THERE OURS..: captures of what the kernel sent, of what came to relay.py
-and of what left it, two network namespaces, and the words that start ours.c's program.
-Prints a table of counts. At a disagreement it prints the packet in hex, and the exit status is 1.
+interop.py KERNEL.pcap BETWEEN.pcap SEEN.pcap SENT.pcap HERE THERE OURS..: captures of what the kernel sent, without
+and with headers between, of what came to relay.py and of what left it, two network namespaces, and the words that start
+ours.c's program. Prints a table of counts. At a disagreement it prints the packet in hex, and the exit status is 1.
 """
+import itertools
 import random
 import struct
 import subprocess
@@ -15,8 +16,9 @@ from scapy.layers.inet6 import ICMPv6EchoReply, ICMPv6EchoRequest, ICMPv6ND_NA, 
 from scapy.packet import Raw
 from scapy.utils import checksum
 
+from between import hand_put, long_put, missummed, scapy_put, unread
 from fragments import Fragment, is_fragment, messages
-from headers import walked
+from headers import HOP, OPTIONS, ROUTING, walked
 from post import HERE, PORT, THERE, Post
 from trailing import right_if_summed, summed_past, with_area, with_areas, with_lengths, with_word
 
@@ -26,6 +28,7 @@ FIXED = {1: (8, 2), 6: (20, 16), 17: (8, 6), 58: (4, 2)}  # protocol: fixed head
 SENT = [*range(33), 255, 256, 1000, 1001, 1400]  # bytes for the other kernel
 PAST = "summed with the datagram, or only its length, or both"
 CHOSEN = "damaged by us in the datagram, and right if the area were summed"
+MISSUMMED = "summed with them, or with another length, number or destination"
 FULL = ["ffff", "80ff7f", "80007fff", "0000ffff", "1234edcb00", "ffffffffffff"]  # their fold is FFFF anywhere
 FULL_ADDRESSES = ["ffffffff", "80007fff", "0000ffff", "fe80017f"]  # the first two bytes and the last, zeros between
 rng = random.Random(SEED)
@@ -71,7 +74,7 @@ def ours(requests):
         letter.encode() + struct.pack(">II", number, len(new)) + new + struct.pack(">I", len(data)) + data
         for letter, number, new, data in requests
     )
-    got = subprocess.run(sys.argv[6:], input=sent, stdout=subprocess.PIPE, check=True).stdout
+    got = subprocess.run(sys.argv[7:], input=sent, stdout=subprocess.PIPE, check=True).stdout
     answers, at = [], 0
     while at < len(got):
         verdict, length = struct.unpack_from(">BI", got, at)
@@ -693,6 +696,75 @@ def check_posted(post):
     check_delivered(kind + "each other UDP length, but for IPv6's 0", SHAPE, unfit, post)
 
 
+# Headers between: the message's sum is of what remains behind them, and no sum is of them
+
+
+def types_left(data):
+    """The types of a packet's routing headers that have segments left."""
+    return [data[at + 2] for number, at, _ in Packet(data).headers if number == ROUTING and data[at + 3] > 0]
+
+
+def in_them(packets):
+    """Packets damaged where headers between say what nobody reads."""
+    places = [(data, list(unread(Packet(data)))) for data in packets]
+    return [spoilt(data, those) for data, those in places if those]
+
+
+def check_between(made, kernel):
+    """Packets with headers between: the kernel's, scapy's, and scapy's with headers of ours. All is as if those weren't
+    there, and they stay as they were."""
+    kind, six = "headers between, ", [packet for packet in map(Packet, made) if not packet.four]
+    plains = [packet.data for packet in six]
+    udp = [packet.data[:packet.end] for packet in six if packet.protocol == 17]
+    scapys = list(scapy_put(rng, [(packet.data[8:40], packet.protocol, layer(packet)) for packet in six]))
+    hands = [*hand_put(rng, plains), *long_put(rng, plains)]
+    areas = [with_area(data, rng.randbytes(rng.randrange(1, 41))) for data in hand_put(rng, udp)]
+    check_good(kind + "made by the kernel", kernel)
+    check_good(kind + "made by scapy", scapys)
+    check_good(kind + "put into scapy's packets", hands)
+    check_good(kind + "put into scapy's packets, a trailing area behind", areas)
+    packets = kernel + scapys + hands + areas
+    check_good(kind + "damaged by us in them alone", in_them(packets))
+    check_damaged(kind + "damaged", packets)
+    check_refused(kind + MISSUMMED, [wrong for data in packets for wrong in missummed(Packet(data))])
+    check_edits([data for data in packets if data[7] > 1], kind)
+    check_mended(packets, kind)
+    check_bits(packets, kind)
+
+
+def one_less(data):
+    """An IPv6 packet with one less in its lifetime."""
+    return data[:7] + bytes([data[7] - 1]) + data[8:]
+
+
+def check_passed(pairs):
+    """Packets of the kernel's with headers between that came to our relay, and what left it: a lifetime one less, and
+    the rest as it was."""
+    befores, afters, agreed = [before for before, _ in pairs], [after for _, after in pairs], 0
+    if not all(afters):
+        disagree("a packet with headers between was not sent on", befores[afters.index(b"")])
+        return
+    rows = zip(befores, afters, judged(befores), judged(afters), tshark(befores), tshark(afters))
+    for before, after, was, now, old, new in rows:
+        if was == now == old == new == GOOD and after == one_less(before):
+            agreed += 1
+        else:
+            disagree(f"headers between, lowered: we say {was} and {now}, tshark {old} and {new}", after)
+    what = "headers between, by the kernel, lifetime lowered by us on the way"
+    count(f"{what}; good for us and for tshark before and after, and the rest as it was", agreed, len(pairs))
+
+
+def check_all_between(made, sent, pairs):
+    """All that is tried with headers between. The kernel must have put each kind of options before each protocol."""
+    kernel = [data for data in sent if not types_left(data)]
+    kinds = {(Packet(data).protocol, number) for data in kernel for number, _, _ in Packet(data).headers}
+    if not kinds >= set(itertools.product((6, 17, 58), (HOP, OPTIONS))):
+        disagree(f"the kernel's capture has only these headers between: {sorted(kinds)}", b"")
+    check_between(made, kernel)
+    whole = [pair for pair in pairs if has_headers(pair[0]) and not is_fragment(pair[0]) and not is_full(pair[0])]
+    check_passed([pair for pair in whole if pair[0][7] > 1 and not types_left(pair[0])])
+
+
 def main():
     made = [scapy_made() for _ in range(MADE)] + [zero_made(i) for i in range(ZEROS)]
     sent = kernel_made(sys.argv[1])
@@ -715,10 +787,11 @@ def main():
     check_sums("p", "cut, summed piece by piece and joined", both)
     check_bits(both)
     check_full_bits()
-    pairs = relayed(sys.argv[2], sys.argv[3])
+    pairs = relayed(sys.argv[3], sys.argv[4])
     check_fragments([pair for pair in pairs if is_fragment(pair[0])])
     check_trailing(made)
-    check_posted(Post(sys.argv[4], sys.argv[5]))
+    check_posted(Post(sys.argv[5], sys.argv[6]))
+    check_all_between(made, [data for data in sent + kernel_made(sys.argv[2]) if has_headers(data)], pairs)
     print("| what | packets | agreed |\n|---|---|---|")
     for what, packets, agreed in table:
         print(f"| {what} | {packets} | {agreed} |")

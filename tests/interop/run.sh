@@ -31,7 +31,8 @@ $x86 cc -O2 -std=c11 -Wall -Wextra -Wpedantic -Werror -Iinclude tests/interop/ou
 
 # Two namespaces, a and b, and two ways between them: a pair of cards (net 99), and through a third namespace, m, where
 # our relay takes what comes at one card to the other (net 98). All cards leave the sums to the kernel. Those of the
-# second way take 1,280 bytes, as few as IPv6 allows.
+# first way take 4,000 bytes, so that the longest header between has room, and those of the second 1,280, as few as IPv6
+# allows. Routing headers of type 4 are for kernels that are told to take them.
 a=hifrostum-a-$$ b=hifrostum-b-$$ m=hifrostum-m-$$ server='' capture='' relay=''
 clean() {
     for process in $server $capture $relay; do
@@ -62,38 +63,67 @@ for ns in $a $b; do
         ip -n "$ns" addr add fd${net%:*}::$number/64 dev "${net#*:}" nodad
         start "$ns" "${net#*:}"
     done
+    ip -n "$ns" link set card mtu 4000
     ip -n "$ns" link set far mtu 1280
+    for card in all card far; do
+        ip netns exec "$ns" sh -c "echo 1 >/proc/sys/net/ipv6/conf/$card/seg6_enabled"
+    done
     number=$((number + 1))
 done
 
-# The capture ends by itself after a minute or 5,000 packets, whatever happens here, and so do server and relay.
-rm -f $out/kernel.pcap $out/ready $out/relaying
-ip netns exec $b dumpcap -q -P -i card -a duration:60 -c 5000 -w $out/kernel.pcap 2>$out/dumpcap.log &
-capture=$!
-ip netns exec $b timeout 120 $python tests/interop/talk.py serve >$out/ready &
+# A capture ends by itself after a minute or 5,000 packets, whatever happens here, and so do server and relay.
+wait_for() { # FILE
+    tries=0
+    until [ -s "$1" ]; do
+        tries=$((tries + 1))
+        if [ $tries -gt 100 ]; then
+            fail "the capture, the server or the relay didn't start: $1 is empty ($out/dumpcap.log)"
+        fi
+        sleep 0.1
+    done
+}
+listen() { # FILE
+    rm -f "$1"
+    ip netns exec $b dumpcap -q -P -i card -a duration:60 -c 5000 -w "$1" 2>$out/dumpcap.log &
+    capture=$!
+    wait_for "$1"
+}
+heard() {
+    sleep 1
+    kill -INT $capture
+    wait $capture || true
+    capture=
+}
+rm -f $out/ready $out/relaying
+ip netns exec $b timeout 240 $python tests/interop/talk.py serve >$out/ready &
 server=$!
-ip netns exec $m timeout 120 $python tests/interop/relay.py left right $out/seen.pcap $out/sent.pcap \
+ip netns exec $m timeout 240 $python tests/interop/relay.py left right $out/seen.pcap $out/sent.pcap \
     $x86 run $out/ours >$out/relaying &
 relay=$!
-tries=0
-until [ -s $out/kernel.pcap ] && [ -s $out/ready ] && [ -s $out/relaying ]; do
-    tries=$((tries + 1))
-    if [ $tries -gt 100 ]; then
-        fail "the capture, the server or the relay didn't start ($out/dumpcap.log)"
-    fi
-    sleep 0.1
-done
+wait_for $out/ready
+wait_for $out/relaying
+
+listen $out/kernel.pcap
 ip netns exec $a timeout 30 $python tests/interop/talk.py ask 10.99.0.2 fd99::2
 for size in 0 1 8 55 56 57 1000 1400; do
     ip netns exec $a ping -q -n -c 2 -i 0.2 -W 2 -s $size 10.99.0.2 >/dev/null
     ip netns exec $a ping -q -n -c 2 -i 0.2 -W 2 -s $size fd99::2 >/dev/null
 done
-sleep 1
-kill -INT $capture
-wait $capture || true
-capture=
+heard
 
-# Through the relay goes what is so long that the kernel cuts it, but nothing with a lifetime of 1.
+# With headers between: those that the kernel lets sockets ask for, which the other kernel answers.
+listen $out/between.pcap
+ip netns exec $a timeout 30 $python tests/interop/recorder.py try fd99::2
+ip netns exec $a timeout 60 $python tests/interop/recorder.py send fd99::2 3000 ||
+    fail "a packet with headers between was not answered"
+heard
+
+# Through the relay goes what has headers between, and what is so long that the kernel cuts it, but nothing with a
+# lifetime of 1.
+ip netns exec $a timeout 60 $python tests/interop/recorder.py send fd98::2 160 ||
+    fail "a packet with headers between was not answered through the relay"
+ip netns exec $a timeout 60 $python tests/interop/recorder.py large fd98::2 ||
+    fail "a datagram in fragments with headers between was not answered through the relay"
 ip netns exec $a timeout 60 $python tests/interop/talk.py large 10.98.0.2 fd98::2 ||
     fail "a datagram in fragments was not answered through the relay"
 for to in 10.98.0.2 fd98::2; do
@@ -104,9 +134,9 @@ for to in 10.98.0.2 fd98::2; do
     ! ip netns exec $a ping -q -n -c 1 -W 1 -t 1 -s 2600 $to >/dev/null ||
         fail "a ping with the lifetime 1 to $to was answered through the relay"
 done
-kill $relay
-wait $relay || true
-relay=
+kill $relay $server
+wait $relay $server 2>/dev/null || true # which says of each that it was ended
+relay='' server=''
 
-# What has a trailing area goes from a to b in here, by the first way.
-$python tests/interop/interop.py $out/kernel.pcap $out/seen.pcap $out/sent.pcap $a $b $x86 run $out/ours
+# What has a trailing area or headers between goes from a to b in here, by the first way, to where the server was.
+$python tests/interop/interop.py $out/kernel.pcap $out/between.pcap $out/seen.pcap $out/sent.pcap $a $b $x86 run $out/ours

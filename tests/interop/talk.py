@@ -1,6 +1,6 @@
 """Makes the kernel send UDP and TCP packets, between two network namespaces.
 
-talk.py serve: answers each datagram and each connection with what it got, until it is ended.
+talk.py serve: answers each datagram and each connection with what it got, until it is ended; recorder.py's too.
 talk.py ask ADDRESS..: sends so much to each address, and sees that it comes back.
 talk.py large ADDRESS..: the same with datagrams that the kernel must cut into three fragments or more.
 """
@@ -8,6 +8,8 @@ import random
 import selectors
 import socket
 import sys
+
+from post import PORT as OTHER_PORT
 
 PORT = 40404
 SO_NO_CHECK = 11  # Linux: send UDP over IPv4 without a sum
@@ -17,10 +19,10 @@ LARGE = [2600, 2601, 4096, 9999, 30000, 65507]  # the last is the longest that I
 
 def serve():
     picker = selectors.DefaultSelector()
-    for kind in (socket.SOCK_DGRAM, socket.SOCK_STREAM):
+    for kind, port in (socket.SOCK_DGRAM, PORT), (socket.SOCK_DGRAM, OTHER_PORT), (socket.SOCK_STREAM, PORT):
         s = socket.socket(socket.AF_INET6, kind)
         s.setsockopt(socket.IPPROTO_IPV6, socket.IPV6_V6ONLY, 0)
-        s.bind(("::", PORT))
+        s.bind(("::", port))
         if kind == socket.SOCK_STREAM:
             s.listen()
         picker.register(s, selectors.EVENT_READ)
@@ -62,12 +64,17 @@ def stream(address):
             assert back == data
 
 
-if sys.argv[1] == "serve":
-    serve()
-elif sys.argv[1] == "ask":
-    for each in sys.argv[2:]:
-        datagrams(each, SIZES)
-        stream(each)
-else:
-    for each in sys.argv[2:]:
-        datagrams(each, LARGE)
+def main():
+    if sys.argv[1] == "serve":
+        serve()
+    elif sys.argv[1] == "ask":
+        for each in sys.argv[2:]:
+            datagrams(each, SIZES)
+            stream(each)
+    else:
+        for each in sys.argv[2:]:
+            datagrams(each, LARGE)
+
+
+if __name__ == "__main__":
+    main()
