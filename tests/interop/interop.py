@@ -16,9 +16,9 @@ from scapy.layers.inet6 import ICMPv6EchoReply, ICMPv6EchoRequest, ICMPv6ND_NA, 
 from scapy.packet import Raw
 from scapy.utils import checksum
 
-from between import hand_put, long_put, missummed, scapy_put, unread
+from between import TYPES, hand_put, long_put, missummed, scapy_put, unread
 from fragments import Fragment, is_fragment, messages
-from headers import HOP, OPTIONS, ROUTING, walked
+from headers import HOP, OPTIONS, ROUTING, routing, walked, with_headers
 from post import HERE, PORT, THERE, Post
 from trailing import right_if_summed, summed_past, with_area, with_areas, with_lengths, with_word
 
@@ -754,7 +754,31 @@ def check_passed(pairs):
     count(f"{what}; good for us and for tshark before and after, and the rest as it was", agreed, len(pairs))
 
 
-def check_all_between(made, sent, pairs):
+def types_taken(post):
+    """The types of routing headers without segments left that the other kernel goes on behind, with scapy's sums."""
+    packets = [with_headers(addressed(6, 8), [(ROUTING, routing(kind, 0, [bytes(16)]))]) for kind in TYPES]
+    found = delivered(post, [(data, False) for data in packets])
+    return [kind for kind, (they, _) in zip(TYPES, found) if they == GOOD]
+
+
+def check_between_posted(kernel, types, post):
+    """Packets with headers between and with our sums, to the other kernel: what is right for us is right for it."""
+    kind, plains = "headers between, to the other kernel, ", [addressed(6, size) for size in SENT]
+    requests = [("m", 0, b"", sumless(data)) for data in (*hand_put(rng, plains, types), *long_put(rng, plains))]
+    mended = check_changed(kind + "mended", requests)
+    packets = mended + [data for data in kernel if Packet(data).protocol == 17]
+    requests = [("l", 0, b"", data) for data in packets] + [stretch(data) for data in roomy(packets)]
+    edited = check_changed(kind + "edited", requests + list(moved_back(packets)))
+    broken = [damaged(Packet(data), ahead=0) for data in packets]
+    check_delivered(kind + "mended by us", GOOD, mended, post)
+    check_delivered(kind + "edited by us", GOOD, edited, post)
+    check_delivered(kind + "damaged by us in them alone", GOOD, in_them(packets), post)
+    check_delivered(kind + "damaged by us in the datagram", MESSAGE_SUM, broken, post)
+    wrong = [wrong for data in mended for wrong in missummed(Packet(data))]
+    check_delivered(kind + MISSUMMED, MESSAGE_SUM, wrong, post)
+
+
+def check_all_between(made, sent, pairs, post):
     """All that is tried with headers between. The kernel must have put each kind of options before each protocol."""
     kernel = [data for data in sent if not types_left(data)]
     kinds = {(Packet(data).protocol, number) for data in kernel for number, _, _ in Packet(data).headers}
@@ -763,6 +787,9 @@ def check_all_between(made, sent, pairs):
     check_between(made, kernel)
     whole = [pair for pair in pairs if has_headers(pair[0]) and not is_fragment(pair[0]) and not is_full(pair[0])]
     check_passed([pair for pair in whole if pair[0][7] > 1 and not types_left(pair[0])])
+    types = types_taken(post)
+    print("interop: the other kernel goes on behind routing headers without segments left of the types", *types)
+    check_between_posted(kernel, types, post)
 
 
 def main():
@@ -790,8 +817,9 @@ def main():
     pairs = relayed(sys.argv[3], sys.argv[4])
     check_fragments([pair for pair in pairs if is_fragment(pair[0])])
     check_trailing(made)
-    check_posted(Post(sys.argv[5], sys.argv[6]))
-    check_all_between(made, [data for data in sent + kernel_made(sys.argv[2]) if has_headers(data)], pairs)
+    post = Post(sys.argv[5], sys.argv[6])
+    check_posted(post)
+    check_all_between(made, [data for data in sent + kernel_made(sys.argv[2]) if has_headers(data)], pairs, post)
     print("| what | packets | agreed |\n|---|---|---|")
     for what, packets, agreed in table:
         print(f"| {what} | {packets} | {agreed} |")
