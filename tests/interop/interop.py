@@ -2,7 +2,8 @@
 
 interop.py KERNEL.pcap BETWEEN.pcap SEEN.pcap SENT.pcap HERE THERE OURS..: captures of what the kernel sent, without
 and with headers between, of what came to relay.py and of what left it, two network namespaces, and the words that start
-ours.c's program. Prints a table of counts. At a disagreement it prints the packet in hex, and the exit status is 1.
+ours.c's program. Prints a table of counts, and one of what each judge says where the rules ask for more than the sum,
+or for less than receivers do. At a disagreement it prints the packet in hex, and the exit status is 1.
 """
 import itertools
 import random
@@ -16,6 +17,7 @@ from scapy.layers.inet6 import ICMPv6EchoReply, ICMPv6EchoRequest, ICMPv6ND_NA, 
 from scapy.packet import Raw
 from scapy.utils import checksum
 
+from apart import BY_KERNEL, SAID, apart
 from between import TYPES, hand_put, long_put, missummed, scapy_put, unread
 from fragments import Fragment, is_fragment, messages
 from headers import HOP, OPTIONS, ROUTING, routing, walked, with_headers
@@ -23,7 +25,7 @@ from post import HERE, PORT, THERE, Post
 from trailing import right_if_summed, summed_past, with_area, with_areas, with_lengths, with_word
 
 SEED, MADE, ZEROS, FULLS, DAMAGES, STRETCHES = 20, 1500, 60, 432, 4, 2
-GOOD, UNSUMMED, SHAPE, HEADER_SUM, FRAGMENT, UNCOVERED, MESSAGE_SUM = 0, 1, 4, 5, 6, 7, 9
+GOOD, UNSUMMED, SHAPE, HEADER_SUM, FRAGMENT, UNCOVERED, MISSING, MESSAGE_SUM = 0, 1, 4, 5, 6, 7, 8, 9
 FIXED = {1: (8, 2), 6: (20, 16), 17: (8, 6), 58: (4, 2)}  # protocol: fixed header, place of the field
 SENT = [*range(33), 255, 256, 1000, 1001, 1400]  # bytes for the other kernel
 PAST = "summed with the datagram, or only its length, or both"
@@ -33,7 +35,7 @@ FULL = ["ffff", "80ff7f", "80007fff", "0000ffff", "1234edcb00", "ffffffffffff"] 
 FULL_ADDRESSES = ["ffffffff", "80007fff", "0000ffff", "fe80017f"]  # the first two bytes and the last, zeros between
 rng = random.Random(SEED)
 differ = 0
-table = []
+table, sides = [], []
 
 
 class Packet:
@@ -106,7 +108,7 @@ def asked(packets, fields):
 
 def status(said):
     """What tshark says of a sum, as a number: some editions print words."""
-    return {"Bad": "0", "Good": "1", "Not present": "3"}.get(said, said)
+    return {"Bad": "0", "Good": "1", "Not present": "3", "Illegal": "4"}.get(said, said)
 
 
 def tshark(packets):
@@ -116,7 +118,7 @@ def tshark(packets):
     for values in asked(packets, fields):
         header, *others = map(status, values)
         message = next((s for s in others if s), None)
-        found = {"0": MESSAGE_SUM, "1": GOOD, "3": UNSUMMED}.get(message)
+        found = {"0": MESSAGE_SUM, "1": GOOD, "3": UNSUMMED, "4": MISSING}.get(message)
         verdicts.append(HEADER_SUM if header == "0" else found)
     return verdicts
 
@@ -778,6 +780,66 @@ def check_between_posted(kernel, types, post):
     check_delivered(kind + MISSUMMED, MESSAGE_SUM, wrong, post)
 
 
+# Where the rules ask for more than the sum, or for less than receivers do
+
+
+def summed(data):
+    """What scapy finds in a UDP packet over IPv6, in our verdict numbers; None where it finds no datagram."""
+    try:
+        made = IPv6(data)
+    except IndexError:  # it stumbles over a routing header of one or two bytes
+        return None
+    if UDP not in made:
+        return None
+    field = made[UDP].chksum
+    del made[UDP].chksum
+    return GOOD if IPv6(bytes(made))[UDP].chksum == field else MESSAGE_SUM
+
+
+def check_apart(kernel, post):
+    """Packets that the walk refuses, and those that it passes and receivers don't, before and after we lower their
+    lifetime: each judge says what it has its reasons for."""
+    found = {**apart(rng, [addressed(6, size) for size in (0, 7, 8, 100)]), BY_KERNEL: kernel}
+    for what in SAID:
+        packets, agreed = found[what], 0
+        answers = ours([("l", 0, b"", data) for data in packets])
+        if answers != [(GOOD, one_less(data)) for data in packets]:
+            disagree(f"{what}: a lifetime was not lowered", packets[0])
+        packets = packets + [data for _, data in answers]
+        theirs = [they for they, _ in delivered(post, [(data, False) for data in packets])]
+        for data, *said in zip(packets, judged(packets), tshark(packets), map(summed, packets), theirs):
+            if tuple(said) == SAID[what]:
+                agreed += 1
+            else:
+                disagree(f"{what}: we, tshark, scapy and the other kernel say {said} for {SAID[what]}", data)
+        sides.append((what, len(packets), agreed, *SAID[what]))
+    walk = (SHAPE, FRAGMENT, UNCOVERED)
+    check_left([(SAID[what][0], data) for what in SAID for data in found[what] if SAID[what][0] in walk])
+
+
+def check_left(refused):
+    """Packets that the walk refuses: mender, address and stretch refuse them alike, and leave them as they are."""
+    calls, agreed = [("m", b""), ("a", rng.randbytes(16)), ("s", b"")], 0
+    wants = [(verdict, data) for verdict, data in refused for _ in calls]
+    answers = ours([(letter, 0, new, data) for _, data in refused for letter, new in calls])
+    for want, answer in zip(wants, answers):
+        if answer == want:
+            agreed += 1
+        else:
+            disagree(f"headers between: refused with {want[0]} by the judge, and answered {answer[0]}", want[1])
+    count("headers between that the walk refuses, mended or edited by us; refused alike, and left as they were", agreed,
+          len(wants))
+
+
+def print_sides():
+    """What each judge said of what the rules see otherwise than receivers do."""
+    words = {GOOD: "good", SHAPE: "no datagram", MISSING: "no sum", MESSAGE_SUM: "wrong sum", None: "nothing"}
+    ends = {**words, GOOD: "handed on", None: "dropped"}
+    print("| headers between | packets | so said | we | tshark | scapy | the other kernel |\n" + "|---" * 7 + "|")
+    for what, packets, agreed, we, tsharks, scapys, kernels in sides:
+        print(f"| {what} | {packets} | {agreed} | {we} | {words[tsharks]} | {words[scapys]} | {ends[kernels]} |")
+
+
 def check_all_between(made, sent, pairs, post):
     """All that is tried with headers between. The kernel must have put each kind of options before each protocol."""
     kernel = [data for data in sent if not types_left(data)]
@@ -790,6 +852,7 @@ def check_all_between(made, sent, pairs, post):
     types = types_taken(post)
     print("interop: the other kernel goes on behind routing headers without segments left of the types", *types)
     check_between_posted(kernel, types, post)
+    check_apart([data for data in sent if 4 in types_left(data) and Packet(data).protocol == 17], post)
 
 
 def main():
@@ -823,6 +886,7 @@ def main():
     print("| what | packets | agreed |\n|---|---|---|")
     for what, packets, agreed in table:
         print(f"| {what} | {packets} | {agreed} |")
+    print_sides()
     print(f"interop: {differ} disagreements")
     return 1 if differ else 0
 
