@@ -24,7 +24,7 @@ use Rattle.wire.proofs.Facts.{OuterFacts, outer-facts, walk-six, begins, facts}
 use Rattle.wire.proofs.Walks.{walk-arrives, clear-reached}
 use Rattle.cover.specs.Sums.{messageTotal, messageSums}
 use Rattle.judge.specs.Judge.{sumRules, judgeRules, judgeOf}
-use Rattle.judge.specs.Stripped.{stripped}
+use Rattle.judge.specs.Stripped.{remaining, stripped}
 use Rattle.judge.proofs.Answers.{sums6}
 
 self : Verdict → Verdict
@@ -41,9 +41,6 @@ module _ (p : List ℕ) (o : clear (outerRules p)) (f : four p ≡ false) (w : c
   known : OuterFacts p
   known = outer-facts p o
 
-  payload : ℕ
-  payload = declaredEnd p - startOf p
-
   -- ---- the bytes of the packet without them
   joined : List ℕ
   joined = take 40 p ++ drop (startOf p) p
@@ -55,9 +52,9 @@ module _ (p : List ℕ) (o : clear (outerRules p)) (f : four p ≡ false) (w : c
   unfolding joined
   long = length-append (take 40 p) (drop (startOf p) p) ∙ rw (fixed, length-drop (startOf p) p)
 
-  wrote : Wrote joined (stripped p) 4 (payload / 256 ∷ payload % 256 ∷ protocolOf p ∷ [])
-  unfolding stripped joined payload
-  wrote = put-wrote joined 4 (payload / 256 ∷ payload % 256 ∷ protocolOf p ∷ []) (omega (arith, long))
+  wrote : Wrote joined (stripped p) 4 (remaining p / 256 ∷ remaining p % 256 ∷ protocolOf p ∷ [])
+  unfolding stripped joined
+  wrote = put-wrote joined 4 (remaining p / 256 ∷ remaining p % 256 ∷ protocolOf p ∷ []) (omega (arith, long))
 
   early : (i : ℕ) → i < 40 → (i < 4) ⊎ (7 ≤ i) → byteAt (stripped p) i ≡ byteAt p i
   unfolding joined
@@ -78,12 +75,12 @@ module _ (p : List ℕ) (o : clear (outerRules p)) (f : four p ≡ false) (w : c
   pub four-is : four (stripped p) ≡ false
   four-is = rw zero-is f
 
-  declared-is : declaredEnd (stripped p) ≡ 40 + payload
-  unfolding declaredEnd payload
+  declared-is : declaredEnd (stripped p) ≡ 40 + remaining p
+  unfolding declaredEnd
   declared-is = simp four-is (omega (arith, wrote .inside 0 4 refl (omega arith), wrote .inside 1 5 refl (omega arith)))
 
   outer-is : clear (outerRules (stripped p))
-  unfolding outerRules payload
+  unfolding outerRules remaining
   outer-is =
       let k = known in
       let b = begins k in
@@ -133,13 +130,13 @@ module _ (p : List ℕ) (o : clear (outerRules p)) (f : four p ≡ false) (w : c
   family-is = simp zero-is
 
   carried-is : carriedOf (stripped p) ≡ carriedOf p
-  unfolding carriedOf payload
+  unfolding carriedOf remaining
   carried-is =
       let k = known in
       let b = begins k in
       let l = wrote .long ∙ long in
-      let e : 40 + payload - 40 ≡ payload = omega arith in
-      rw (start-is, declared-is, e) (part-moved p (stripped p) (startOf p) 40 payload (omega arith) (omega arith) (λ i h. behind i))
+      let e : 40 + remaining p - 40 ≡ remaining p = omega arith in
+      rw (start-is, declared-is, e) (part-moved p (stripped p) (startOf p) 40 (remaining p) (omega arith) (omega arith) (λ i h. behind i))
 
   rules-is : messageRules (stripped p) ≡ messageRules p
   unfolding messageRules
