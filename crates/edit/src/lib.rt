@@ -6,7 +6,8 @@
 //
 // A lifetime stands in the header, so the packet need not have a message: a fragment's is lowered too. The other two
 // edits find the message themselves and hand it to one function, which makes the tests that are left: the compiler then
-// takes `outer` and `inner` in, and no message is built in memory. Whatever is read is read before the first write.
+// takes `outer`, `walk` and `inner` in, and no message is built in memory. Whatever is read is read before the first
+// write.
 mod address;
 mod lifetime;
 mod stretch;
