@@ -14,11 +14,9 @@ use Rattle.sums.specs.Total.{odd, weigh}
 use Rattle.sums.specs.Fold.{swap}
 use Rattle.wire.specs.Bytes.{wordAt, part, put, putWord}
 use Rattle.wire.specs.Outer.{four, addressSize, addressesAt, headerField}
-use Rattle.wire.specs.Messages.{shapeRules}
-use Rattle.wire.specs.Table.{rowOf}
-use Rattle.wire.specs.Inner.{Holds, messageRules, pseudo, silentOf}
+use Rattle.wire.specs.Inner.{Holds, silentOf}
 use Rattle.wire.specs.declared.Message.{Message}
-use Rattle.wire.proofs.Held.{family6, held-facts, held-silent}
+use Rattle.wire.proofs.Held.{pseudo-six, held-silent}
 use Rattle.kept.specs.Update.{headerAfter}
 use Rattle.kept.specs.Edits.{addressLeft, sideAt}
 use Rattle.steps.specs.Steps.{Change, Renewed, messagePut}
@@ -43,15 +41,12 @@ module _ (p : List ℕ) (side : ℕ) (new : List ℕ) where
       (λ t. sym (simp (t, eq-eqb (length new) (addressSize p) n)))
       (λ t. let z : ¬ (side ≡ 0) = eqb-false side 0 t in sym (simp (t, eq-eqb side 1 (omega arith), eq-eqb (length new) (addressSize p) n)))
 
--- ---- IPv6: UDP's 0000 is missing, and only ICMP, which isn't in the table, has no pseudo-header
+-- ---- IPv6: UDP's 0000 is missing, and every message has a pseudo-header
 pub summed6 : (p : List ℕ) → four p ≡ false → (silentOf p && not (four p)) ≡ false → silentOf p ≡ false
 summed6 p f e = by-cases (silentOf p) (λ t. absurd (true≢false (simp (t, f) at e))) (λ t. t)
 
 pseudo6 : {p : List ℕ} {m : Message} → Holds p m → four p ≡ false → m .pseudo ≡ true
-unfolding messageRules shapeRules rowOf
-pseudo6 {p} {m} h f =
-    ap (λ (x : Message). x .pseudo) (h .is)
-    ∙ by-cases (pseudo p) (λ t. t) (λ t. absurd (true≢false (rw (family6 p f, held-facts h .plain t) at (h .inner .0))))
+pseudo6 {p} {m} h f = ap (λ (x : Message). x .pseudo) (h .is) ∙ pseudo-six p (h .outer) (h .inner) f
 
 -- ---- a is the place of a side's address: even in the header and in the pseudo-header
 pub record Sided (p : List ℕ) (side a : ℕ) : Type 0 where

@@ -6,14 +6,8 @@ use Rattle.verdicts.specs.Rules.{first}
 use Rattle.verdicts.specs.declared.Verdict.{Verdict}
 use Rattle.verdicts.specs.declared.Verdict.the-variants.{Good}
 use Rattle.wire.specs.Inner.{bodyOf}
-use Rattle.judge.specs.Judge.{missingRule}
 use Rattle.kept.specs.Edits.{lifetimeRules, lifetimeLeft, sideAt, addressRules, addressLeft, stretchRules, stretchLeft}
 
--- what address and stretch answer where UDP's sum isn't missing
-abbrev pub unlessMissing : List ℕ → Verdict × List ℕ → Verdict × List ℕ
-unlessMissing p x = first (missingRule p) (λ v. (v, p)) x
-
--- and by each edit's own rules
 abbrev pub lifetimeIn : List ℕ → Verdict × List ℕ
 lifetimeIn p = first (lifetimeRules p) (λ v. (v, p)) (Good, lifetimeLeft p)
 

@@ -14,7 +14,8 @@ ghost use mathlib.Core.Bool.{true, false};
 ghost use Prim.Native.Nat.{_≤_};
 ghost use Rattle.wire.specs.Outer.{four};
 ghost use Rattle.wire.specs.Inner.{silentOf, Holds};
-ghost use Rattle.edit.specs.Rest.{unlessMissing, addressIn};
+ghost use Rattle.steps.specs.Steps.{unlessMissing};
+ghost use Rattle.edit.specs.Rest.{addressIn};
 
 // Sets the address on a side of a packet with that message.
 pub fn set_side(packet: &mut [u8], m: Message, side: u32, address: &[u8]) -> Verdict

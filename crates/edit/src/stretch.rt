@@ -13,7 +13,8 @@ ghost use lib.ListN.{length};
 ghost use Rattle.wire.specs.Bytes.{put};
 ghost use Rattle.wire.specs.Inner.{startOf, endOf, bodyOf, Holds};
 ghost use Rattle.kept.specs.Update.{messageAfter};
-ghost use Rattle.edit.specs.Rest.{unlessMissing, stretchIn};
+ghost use Rattle.steps.specs.Steps.{unlessMissing};
+ghost use Rattle.edit.specs.Rest.{stretchIn};
 
 // Sets bytes in the body of a packet with that message.
 pub fn set_within(packet: &mut [u8], m: Message, place: usize, bytes: &[u8]) -> Verdict

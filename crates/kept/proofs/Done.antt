@@ -9,22 +9,23 @@ use Rattle.verdicts.specs.Rules.{clear}
 use Rattle.sums.specs.Total.{odd, weigh}
 use Rattle.sums.specs.Fold.{fold, fieldOf, passes}
 use Rattle.sums.specs.Update.{updated}
-use Rattle.sums.proofs.Folds.{fold-as}
+use Rattle.sums.proofs.Folds.{fold-as, fold-same}
+use Rattle.sums.proofs.Passing.{pass-alike}
 use Rattle.sums.proofs.Updates.{update-passes, update-renews}
 use Rattle.wire.specs.Bytes.{wordAt, part, putWord, Bytes}
 use Rattle.wire.specs.Outer.{four, headerField}
-use Rattle.wire.specs.Inner.{fieldAt, silentOf, udp, wholeRules}
+use Rattle.wire.specs.Inner.{fieldAt, pseudo, silentOf, udp, wholeRules}
 use Rattle.wire.proofs.Facts.{OuterFacts, Facts}
 use Rattle.wire.proofs.Writes.{word-small, word-wrote}
 use Rattle.wire.proofs.Same.{Same, silent-at, field-same, four-same, same-self}
 use Rattle.wire.proofs.Held.{whole-facts}
 use Rattle.cover.specs.Sums.{headerTotal, messageTotal, headerSums, messageSums}
-use Rattle.cover.proofs.Blocks.{header-word, message-field, header-some}
+use Rattle.cover.proofs.Blocks.{header-word, message-field, header-some, message-some}
 use Rattle.judge.proofs.Answers.{sums4}
 use Rattle.judge.proofs.Kept.{Heard}
 use Rattle.mend.specs.Fresh.{sent, freshHeader, header, message, Fresh}
 use Rattle.mend.proofs.Numbers.{sent-some, sent-mod}
-use Rattle.mend.proofs.Fresh.{writeH, writeF, sameH, sameF, asideH, asideF, freshF, header-right, message-right, header-fresh, silent-carry, message-fresh}
+use Rattle.mend.proofs.Fresh.{writeH, writeF, sameH, sameF, asideH, asideF, freshF, header-right, message-right, header-fresh, silent-carry, aside-carry, message-fresh}
 use Rattle.kept.specs.Update.{updatedAt}
 
 -- from p to q; u says whether the field is updated
@@ -127,7 +128,7 @@ module _ {p q r : List ℕ} {u : Bool} (k : Facts p) (a : Same p q) (b : Same p 
   pub message-carry : MessageKept u p q → MessageKept u p r
   unfolding messageSums
   message-carry h =
-      let fresh = message-fresh k a b t e in
+      let fresh = message-fresh k a b (aside-carry k a b t e) e in
       record {
         heard = record { silent = silent-carry k a b e ∙ h .heard .silent; sums = λ s. rw t (h .heard .sums s) };
         fresh = λ g. fresh (h .fresh g);
@@ -140,3 +141,35 @@ header-self p = record { sums = refl; fresh = λ g. g; renewed = λ n. absurd (t
 
 pub message-self : (p : List ℕ) → MessageKept false p p
 message-self p = record { heard = record { silent = refl; sums = λ s. refl }; fresh = λ g. g; renewed = λ n. absurd (true≢false (sym n)); stays = λ n. refl }
+
+-- ---- IPv6 has no header's
+pub header-none : {p q : List ℕ} {u : Bool} → Same p q → four p ≡ false → HeaderKept u p q
+unfolding headerSums
+header-none a f =
+    record {
+      sums = rw (four-same (a .header), f);
+      fresh = λ g h. absurd (true≢false (sym h ∙ four-same (a .header) ∙ f));
+      renewed = λ n s g. absurd (true≢false (sym g ∙ four-same (a .header) ∙ f));
+      stays = λ n g. absurd (true≢false (sym g ∙ f));
+    }
+
+-- ---- a message behind a pseudo-header keeps its class, and the field is left as it is
+module _ {p q : List ℕ} (k : Facts p) (b : Same p q) (t : messageTotal q % 65535 ≡ messageTotal p % 65535)
+    (e : wordAt q (fieldAt p) ≡ wordAt p (fieldAt p)) (s : pseudo p ≡ true) where
+  aside-class : fold (messageTotal (putWord q (fieldAt p) 0)) ≡ fold (messageTotal (putWord p (fieldAt p) 0))
+  aside-class =
+      let z = same-self p in
+      let x = message-some k (sameF k z 0) s in
+      let y = message-some k (sameF k b 0) s in
+      fold-same _ _ (omega (arith, asideF k z, asideF k b)) (λ h. omega arith) (λ h. omega arith)
+
+  pub message-class : MessageKept false p q
+  unfolding messageSums
+  message-class =
+      let z = same-self p in
+      record {
+        heard = record { silent = silent-carry k z b e; sums = λ g. pass-alike (messageTotal q) (messageTotal p) (message-some k b s) (message-some k z s) t };
+        fresh = message-fresh k z b aside-class e;
+        renewed = λ n. absurd (true≢false (sym n));
+        stays = λ n. e;
+      }

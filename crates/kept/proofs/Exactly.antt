@@ -1,21 +1,21 @@
 -- Each answer of an edit comes exactly in its stated case.
 use mathlib.Core.Path.{_≡_, refl, sym, ap, _∙_}
 use mathlib.Core.Logic.{_↔_, _⊎_, _≢_, inl, inr, ⊎-elim}
-use Prim.Native.Nat.{ℕ, zero, suc, _+_, _-_, _<_}
+use Prim.Native.Nat.{ℕ, zero, suc, _+_, _-_, _<_, _≤_}
 use native.Mathlib.Omega.{arith}
 use native.Mathlib.Decide.{ℕ-discrete}
 use mathlib.Core.List.{List, [], _∷_}
 use mathlib.Core.Bool.{Bool, true, false, not, _&&_, _||_, true≢false}
 use lib.ListN.{length}
 use lib.Dec.{ltb, eqb}
-use borrow.Author.Tests.{eqb-true, ltb-false}
+use borrow.Author.Tests.{eqb-true, ltb-false, not-false}
 use Rattle.verdicts.specs.Rules.{clear, Comes}
 use Rattle.verdicts.specs.declared.Verdict.{Verdict}
 use Rattle.verdicts.proofs.Tests.{by-cases}
 use Rattle.verdicts.proofs.Rules.{clear-both}
 use Rattle.verdicts.proofs.Calls.{call-answers}
-use Rattle.verdicts.proofs.Telling.{Tells, eqb-tells, ltb-tells, not-tells, and-tells, or-tells, as-tells, Told, next, told-append, told-exactly}
-use Rattle.wire.specs.Bytes.{byteAt, part, put, putWord}
+use Rattle.verdicts.proofs.Telling.{Tells, yes-tells, eqb-tells, ltb-tells, not-tells, and-tells, or-tells, as-tells, Told, next, told-append, told-exactly}
+use Rattle.wire.specs.Bytes.{byteAt, wordAt, part, put, putWord}
 use Rattle.wire.specs.Outer.{four, versionOf, lifetimeAt, addressSize, outerRules}
 use Rattle.wire.specs.Inner.{protocolOf, startOf, endOf, lengthOf, fieldAt, bodyOf, wholeRules}
 use Rattle.wire.proofs.Parts.{part-length, part-byte}
@@ -26,9 +26,11 @@ use Rattle.judge.specs.Judge.{missingRule}
 use Rattle.judge.specs.Cases.{outerCases, wholeCases, missingCase}
 use Rattle.judge.proofs.Accepts.{shaped}
 use Rattle.judge.proofs.Exactly.{outer-told, whole-told, missing-told}
-use Rattle.kept.specs.Edits.{editRules, lifetimeRules, addressRules, allZero, blank, stretchRules}
-use Rattle.kept.specs.Runs.{Edit, lifetime, address, stretch, apply, rulesOf}
-use Rattle.kept.specs.Cases.{editCases, lifetimeCases, addressCases, Zeros, stretchCases, casesOf}
+use Rattle.kept.specs.Edits.{editRules, lifetimeRules, sideAt, addressRules, allZero, blank, stretchRules}
+use Rattle.kept.specs.Prefix.{addressAt, sixRules, beginsWith, prefixRules}
+use Rattle.kept.specs.Runs.{Edit, lifetime, address, stretch, prefix, apply, rulesOf}
+use Rattle.kept.specs.Cases.{editCases, lifetimeCases, addressCases, Zeros, stretchCases, sixCases, Reads, prefixCases, casesOf}
+use Rattle.kept.proofs.Prefix.{side-in}
 use Rattle.kept.proofs.Single.{made, apply-as}
 
 -- ---- all zeros
@@ -86,6 +88,11 @@ module _ (p : List ℕ) (k : OuterFacts p) where
 size-tells : (n size : ℕ) → Tells (not (eqb n size)) (n ≢ size)
 size-tells n size = not-tells (eqb n size) (eqb-tells n size)
 
+side-tells : (side : ℕ) → Tells (not (eqb side 0 || eqb side 1)) ((side ≢ 0) × (side ≢ 1))
+side-tells side =
+    as-tells (not-tells (eqb side 0 || eqb side 1) (or-tells (eqb side 0) (eqb side 1) (eqb-tells side 0) (eqb-tells side 1)))
+    (λ n. (λ e. n (inl e), λ e. n (inr e))) (λ n. ⊎-elim (n .0) (n .1))
+
 module _ (p : List ℕ) (c : clear (editRules p)) where
   known : Facts p
   unfolding editRules
@@ -93,11 +100,7 @@ module _ (p : List ℕ) (c : clear (editRules p)) where
 
   address-told : (side : ℕ) (new : List ℕ) → Told (addressRules p side new) (addressCases p side new)
   address-told side new =
-      next (
-        as-tells (not-tells (eqb side 0 || eqb side 1) (or-tells (eqb side 0) (eqb side 1) (eqb-tells side 0) (eqb-tells side 1)))
-            (λ n. (λ e. n (inl e), λ e. n (inr e))) (λ n. ⊎-elim (n .0) (n .1)),
-        refl,
-      ) λ a.
+      next (side-tells side, refl) λ a.
       next (family-tells p (known .outer) (not (eqb (length new) (addressSize p))) (λ f. simp f (size-tells (length new) 4)) (λ f. simp f (size-tells (length new) 16)), refl) λ b.
       tt
 
@@ -117,12 +120,46 @@ module _ (p : List ℕ) (c : clear (editRules p)) where
       ) λ b.
       tt
 
+-- ---- and a prefix's
+begins-tells : (xs ys : List ℕ) → length ys ≤ length xs → Tells (beginsWith xs ys) ((i : ℕ) → i < length ys → byteAt xs i ≡ byteAt ys i)
+begins-tells xs [] l = yes-tells (λ i h. absurd (omega arith))
+begins-tells [] (y ∷ ys) l = absurd (omega arith)
+begins-tells (x ∷ xs) (y ∷ ys) l =
+    as-tells (and-tells (eqb x y) (beginsWith xs ys) (eqb-tells x y) (begins-tells xs ys (omega arith)))
+    (λ z i h. at z i h)
+    (λ n. (n 0 (omega arith), λ i h. n (suc i) (omega arith)))
+  where
+    at : (x ≡ y) × ((i : ℕ) → i < length ys → byteAt xs i ≡ byteAt ys i) → (i : ℕ) → i < suc (length ys) → byteAt (x ∷ xs) i ≡ byteAt (y ∷ ys) i
+    at z zero h = z .0
+    at z (suc i) h = z .1 i (omega arith)
+
+prefix-told : (p : List ℕ) (side : ℕ) (expected new : List ℕ) → sideAt p side + 16 ≤ length p → Told (prefixRules p side expected new) (prefixCases p side expected new)
+prefix-told p side expected new fits =
+    let a = sideAt p side in
+    next (side-tells side, refl) λ s.
+    next (size-tells (length expected) 6, refl) λ x.
+    next (size-tells (length new) 6, refl) λ y.
+    let n : length expected ≡ 6 = eqb-true (length expected) 6 (not-false (eqb (length expected) 6) x) in
+    next (
+      as-tells (not-tells (beginsWith (addressAt p a) expected) (begins-tells (addressAt p a) expected (omega (arith, part-length p a 16 fits))))
+          (λ h r. h (λ i l. part-byte p a 16 i (omega arith) ∙ r i l)) (λ h r. h (λ i l. sym (part-byte p a 16 i (omega arith)) ∙ r i l)),
+      refl,
+    ) λ b.
+    next (eqb-tells (wordAt p (a + 6)) 65535, refl) λ w.
+    tt
+
 -- ---- all of them
 edit-told : (p : List ℕ) → Told (editRules p) (editCases p)
 unfolding editRules
 edit-told p =
     told-append (wholeRules p) (missingRule p) (wholeCases p) (missingCase p) (whole-told p)
     (λ w. let s = shaped p w in missing-told p (s .outer) (s .inner))
+
+six-told : (p : List ℕ) → Told (sixRules p) (sixCases p)
+six-told p =
+    next (eqb-tells (length p) 0, refl) λ e.
+    next (size-tells (versionOf p) 6, refl) λ v.
+    edit-told p
 
 told : (e : Edit) (p : List ℕ) → Told (rulesOf e p) (casesOf e p)
 told lifetime p =
@@ -131,6 +168,9 @@ told (address side new) p =
     told-append (editRules p) (addressRules p side new) (editCases p) (addressCases p side new) (edit-told p) (λ c. address-told p c side new)
 told (stretch place new) p =
     told-append (editRules p) (stretchRules p place new) (editCases p) (stretchCases p place new) (edit-told p) (λ c. stretch-told p c place new)
+told (prefix side expected new) p =
+    told-append (sixRules p) (prefixRules p side expected new) (sixCases p) (prefixCases p side expected new) (six-told p)
+    (λ c. prefix-told p side expected new (side-in p c side))
 
 -- each refusal comes exactly in its case, in the paper's order, and good where there is none
 pub edit-exactly : (e : Edit) (p : List ℕ) (v : Verdict) → (apply e p .0 ≡ v) ↔ Comes (casesOf e p) v

@@ -3,6 +3,7 @@ pub mod Sides
 pub mod Done
 pub mod Steps
 pub mod Changes
+pub mod Prefix
 pub mod Single
 pub mod Exactly
 pub mod Sequences

@@ -28,9 +28,12 @@ module _ (p : List ℕ) where
       let z : a + size - addressesAt p ≡ addressSize p = omega arith in
       record { from = omega arith; even = rw z (t .1); to = omega arith }
 
+  pub side-fits : (side n : ℕ) → n ≡ addressSize p → Addressed p (sideAt p side) n
+  side-fits side n e =
+      by-cases (eqb side 0)
+      (λ s. simp s (source-at (addressesAt p + 0) (addressSize p) n (omega arith) refl e))
+      (λ s. simp s (destination-at (addressesAt p) (addressSize p) n refl refl e))
+
   pub side-addressed : (side : ℕ) (new : List ℕ) → clear (addressRules p side new) → Addressed p (sideAt p side) (length new)
   side-addressed side new c =
-      let e = eqb-true (length new) (addressSize p) (not-false (eqb (length new) (addressSize p)) (c .1 .0)) in
-      by-cases (eqb side 0)
-      (λ s. simp s (source-at (addressesAt p + 0) (addressSize p) (length new) (omega arith) refl e))
-      (λ s. simp s (destination-at (addressesAt p) (addressSize p) (length new) refl refl e))
+      side-fits side (length new) (eqb-true (length new) (addressSize p) (not-false (eqb (length new) (addressSize p)) (c .1 .0)))

@@ -30,23 +30,27 @@ use Rattle.mend.specs.Mend.{mendOf, Outside}
 use Rattle.mend.proofs.Fresh.{used-whole, used-sums, placed-same}
 use Rattle.mend.proofs.Mending.{mend-fresh, tail-outside}
 use Rattle.kept.specs.Edits.{editRules, lifetimeRules, lifetimeLeft, lifetimeOf, sideAt, addressRules, addressLeft, addressOf, stretchRules, stretchLeft, stretchOf}
-use Rattle.kept.specs.Runs.{Fit, Edit, lifetime, address, stretch, apply, rulesOf, placeOf, newOf}
+use Rattle.kept.specs.Prefix.{wordOf, prefixLeft, prefixOf}
+use Rattle.kept.specs.Runs.{Fit, Edit, lifetime, address, stretch, prefix, apply, rulesOf, placeOf, newOf}
 use Rattle.kept.specs.Fields.{updates, Right}
 use Rattle.kept.proofs.Sides.{side-addressed}
 use Rattle.kept.proofs.Steps.{accepted, in-use, Kept, lifetime-step}
 use Rattle.kept.proofs.Changes.{address-step, stretch-step}
+use Rattle.kept.proofs.Prefix.{with-length, six-clear, prefix-step}
 
 -- what an edit makes of a packet where no rule refuses
 abbrev pub made : Edit → List ℕ → List ℕ
 made lifetime p = lifetimeLeft p
 made (address side new) p = addressLeft p (sideAt p side) new
 made (stretch place new) p = stretchLeft p (bodyOf p + place) new
+made (prefix side expected new) p = prefixLeft p (sideAt p side) new
 
 pub apply-as : (e : Edit) (p : List ℕ) → apply e p ≡ first (rulesOf e p) (λ v. (v, p)) (Good, made e p)
-unfolding lifetimeOf addressOf stretchOf
+unfolding lifetimeOf addressOf stretchOf prefixOf
 apply-as lifetime p = refl
 apply-as (address side new) p = refl
 apply-as (stretch place new) p = refl
+apply-as (prefix side expected new) p = refl
 
 -- ---- what it answers
 module _ (e : Edit) (p : List ℕ) where
@@ -69,6 +73,7 @@ accepted-clear e p g = call-clear (rulesOf e p) p (made e p) (refusals e) (ap (�
     refusals lifetime = omega arith
     refusals (address side new) = omega arith
     refusals (stretch place new) = omega arith
+    refusals (prefix side expected new) = omega arith
 
 -- ---- what an accepted one leaves
 pub kept : (e : Edit) (p : List ℕ) → Fit e → Bytes p → clear (rulesOf e p)
@@ -83,6 +88,9 @@ kept (stretch place new) p f b c =
     let d = clear-both (editRules p) (stretchRules p place new) c in
     let a = accepted p (d .0) in
     rw (in-use a) (stretch-step p b a place new f (d .1))
+kept (prefix side expected new) p f b c =
+    let d = six-clear p side expected new c in
+    prefix-step p b (d .packet) (d .six) (sideAt p side) (d .place) new f (d .size)
 
 -- its new bytes stand in place
 pub new-stands : (e : Edit) (p : List ℕ) → Fit e → Bytes p → apply e p .0 ≡ Good → (j : ℕ) → j < length (newOf e p)
@@ -123,6 +131,12 @@ before-tail (stretch place new) p c =
     let k = a .facts in
     let l = ltb-false (endOf p - bodyOf p) (place + length new) (d .1 .0) in
     (k .outer, omega (arith, tail-end p (clear-carries p (a .whole))))
+before-tail (prefix side expected new) p c =
+    let d = six-clear p side expected new c in
+    let k = d .packet .facts .outer in
+    let o = tail-order k in
+    let a = d .place in
+    (k, omega (arith, with-length p (sideAt p side) new (omega arith) (d .size) (wordOf p (sideAt p side) new)))
 
 -- so no byte of it changes
 pub tail-stays : (e : Edit) (p : List ℕ) (i : ℕ) → Fit e → Bytes p → tailAt p ≤ i → byteAt (apply e p .1) i ≡ byteAt p i

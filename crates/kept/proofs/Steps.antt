@@ -30,7 +30,7 @@ use Rattle.mend.proofs.Fresh.{used-sums, writeH, writeF, sameH, sameF, silent-c
 use Rattle.mend.proofs.Mending.{outside}
 use Rattle.kept.specs.Update.{updatedAt, headerAfter, messageAfter}
 use Rattle.kept.specs.Edits.{editRules, lowered}
-use Rattle.kept.proofs.Done.{HeaderKept, MessageKept, header-done, message-done, header-carry, message-carry, message-self}
+use Rattle.kept.proofs.Done.{HeaderKept, MessageKept, header-done, message-done, header-carry, message-carry, header-none, message-self}
 
 -- a packet that no rule of the edits' common order refuses: a silent one is IPv4's
 pub accepted : (p : List ℕ) → clear (editRules p) → Accepted p
@@ -91,21 +91,7 @@ module _ {p q : List ℕ} (k : OuterFacts p) (by : Bytes p) (a : Same p q) (bq :
       }
 
   header-step6 : four p ≡ false → HeaderStep q
-  unfolding headerSums
-  header-step6 f =
-      record {
-        same = a;
-        bytes = bq;
-        kept = record {
-          sums = rw (four-same (a .header), f);
-          fresh = λ g h. absurd (true≢false (sym h ∙ four-same (a .header) ∙ f));
-          renewed = λ u. absurd (true≢false (sym u ∙ f));
-          stays = λ n u. absurd (true≢false (sym u ∙ f));
-        };
-        total = λ m. refl;
-        word = λ m. refl;
-        others = λ i o. refl;
-      }
+  header-step6 f = record { same = a; bytes = bq; kept = header-none a f; total = λ m. refl; word = λ m. refl; others = λ i o. refl }
 
   pub header-step : HeaderStep (headerAfter p at new q)
   unfolding headerAfter

@@ -1,16 +1,16 @@
 -- No edit reads the tail: packets that agree up to it are answered alike, and agree up to it afterwards.
-use mathlib.Core.Path.{_≡_, refl, ap}
+use mathlib.Core.Path.{_≡_, refl, sym, ap, _∙_}
 use Prim.Native.Nat.{ℕ, _+_, _-_, _≤_}
 use native.Mathlib.Omega.{arith}
 use mathlib.Core.List.{List, [], _∷_}
 use lib.ListN.{length}
 use lib.Dec.{eqb}
-use borrow.Author.Tests.{ltb-false}
+use borrow.Author.Tests.{ltb-false, ne-eqb}
 use Rattle.verdicts.specs.Rules.{clear}
 use Rattle.verdicts.proofs.Tests.{by-cases}
 use Rattle.verdicts.proofs.Rules.{clear-both}
 use Rattle.verdicts.proofs.Calls.{RulesAlike, alike-self, alike-append, calls-alike}
-use Rattle.wire.specs.Bytes.{byteAt, Bytes}
+use Rattle.wire.specs.Bytes.{byteAt, wordAt, Bytes}
 use Rattle.wire.specs.Outer.{four, headerField, lifetimeAt, addressesAt}
 use Rattle.wire.specs.Inner.{startOf, endOf, lengthOf, fieldAt, bodyOf, pseudo, silentOf, wholeRules, tailAt, UpToTail}
 use Rattle.wire.proofs.Facts.{outer-facts}
@@ -22,8 +22,10 @@ use Rattle.judge.specs.Judge.{missingRule}
 use Rattle.judge.proofs.Tail.{tail-silent}
 use Rattle.kept.specs.Update.{updatedAt, headerAfter, messageAfter}
 use Rattle.kept.specs.Edits.{lowered, editRules, sideAt, addressRules, allZero, blank, stretchRules}
-use Rattle.kept.specs.Runs.{Edit, lifetime, address, stretch, apply, run, rulesOf, Fit, Fits}
+use Rattle.kept.specs.Prefix.{addressAt, wordOf, sixRules, prefixRules, prefixNew}
+use Rattle.kept.specs.Runs.{Edit, lifetime, address, stretch, prefix, apply, run, rulesOf, Fit, Fits}
 use Rattle.kept.proofs.Steps.{accepted}
+use Rattle.kept.proofs.Prefix.{word-as, six-clear, in-place}
 use Rattle.kept.proofs.Single.{made, apply-as, before-tail, still}
 
 module _ {p q : List ℕ} (a : UpToTail p q) where
@@ -96,6 +98,24 @@ module _ {p q : List ℕ} (a : UpToTail p q) where
       let o = tail-order k in
       a .same (lifetimeAt p) (by-cases (four p) (λ f. simp f (omega arith)) (λ f. simp f (omega arith)))
 
+  -- a prefix's rules, and what it writes, are read off the address
+  six-alike : RulesAlike (sixRules p) (sixRules q)
+  six-alike =
+      let k = outer-facts p (a .outer) in
+      let z = a .same 0 (omega (arith, tail-order k)) in
+      let l = a .long in
+      (ne-eqb (length q) 0 (λ e. omega arith) ∙ sym (ne-eqb (length p) 0 (λ e. omega arith)), refl, λ f. (rw z, refl, λ g. edit-alike))
+
+  module _ (c : clear (sixRules p)) (side : ℕ) where
+    before : sideAt p side + 16 ≤ tailAt p
+    before = let l = in-place p c side in let k = outer-facts p (a .outer) in let o = tail-order k in omega arith
+
+    address-alike : addressAt q (sideAt p side) ≡ addressAt p (sideAt p side)
+    address-alike = agree-part agree (sideAt p side) 16 before
+
+    word-alike : wordAt q (sideAt p side + 6) ≡ wordAt p (sideAt p side + 6)
+    word-alike = agree-word agree (sideAt p side + 6) (omega (arith, before))
+
   rules-alike : (e : Edit) → RulesAlike (rulesOf e p) (rulesOf e q)
   rules-alike lifetime = rw (tail-layout a .outer, lifetime-place, lifetime-alike) (alike-self (rulesOf lifetime p))
   rules-alike (address side new) =
@@ -104,6 +124,12 @@ module _ {p q : List ℕ} (a : UpToTail p q) where
   rules-alike (stretch place new) =
       alike-append (editRules p) (editRules q) (stretchRules p place new) (stretchRules q place new) edit-alike
       (λ c. stretch-alike (accepted p c .whole) place new)
+
+  rules-alike (prefix side expected new) =
+      let at = sideAt p side in
+      alike-append (sixRules p) (sixRules q) (prefixRules p side expected new) (prefixRules q side expected new)
+      six-alike
+      (λ c. rw (four-same (tail-layout a .header), address-alike c side, word-alike c side) (alike-self (prefixRules p side expected new)))
 
   -- ---- what an accepted edit makes
   made-alike : (e : Edit) → clear (rulesOf e p) → Agree (tailAt p) (made e p) (made e q)
@@ -126,6 +152,16 @@ module _ {p q : List ℕ} (a : UpToTail p q) where
       (by-cases (eqb (length new) 0)
       (λ z. simp z agree)
       (λ z. simp z (message-alike w (at - startOf p) at new b (agree-put agree at new b))))
+  made-alike (prefix side expected new) c =
+      let b = before-tail (prefix side expected new) p c .1 in
+      let d = clear-both (sixRules p) (prefixRules p side expected new) c .0 in
+      let n = six-clear p side expected new c .size in
+      let at = sideAt p side in
+      let l = before d side in
+      let o = tail-agree a in
+      let e : wordOf q at new ≡ wordOf p at new =
+      word-as q at new (let r = o .right in omega arith) n ∙ rw (agree-part agree at 8 (omega arith)) (sym (word-as p at new (let r = o .left in omega arith) n)) in
+      rw (four-same (tail-layout a .header), e) (agree-put agree at (prefixNew p at new) b)
 
 -- ---- one edit, and any sequence of them
 pub edit-unread : (e : Edit) {p q : List ℕ} → Fit e → Bytes p → Bytes q → UpToTail p q

@@ -5,12 +5,13 @@ use mathlib.Core.Logic.{_⊎_, _≢_}
 use mathlib.Core.List.{List, [], _∷_, _++_}
 use lib.ListN.{length}
 use Rattle.verdicts.specs.Rules.{Case, _leads_}
-use Rattle.verdicts.specs.declared.Verdict.the-variants.{Place, Spent, Blank}
-use Rattle.wire.specs.Bytes.{byteAt, put}
+use Rattle.verdicts.specs.declared.Verdict.the-variants.{Cut, Version, Place, Spent, Blank}
+use Rattle.wire.specs.Bytes.{byteAt, wordAt, put}
 use Rattle.wire.specs.Outer.{versionOf}
 use Rattle.wire.specs.Inner.{protocolOf, startOf, endOf, fieldAt, bodyOf}
 use Rattle.judge.specs.Cases.{outerCases, wholeCases, missingCase}
-use Rattle.kept.specs.Runs.{Edit, lifetime, address, stretch}
+use Rattle.kept.specs.Edits.{sideAt}
+use Rattle.kept.specs.Runs.{Edit, lifetime, address, stretch, prefix}
 
 abbrev pub lifetimeCases : List ℕ → List Case
 lifetimeCases p = ((((versionOf p ≡ 4) × (byteAt p 8 < 2)) ⊎ ((versionOf p ≡ 6) × (byteAt p 7 < 2))) leads Spent) ∷ []
@@ -35,7 +36,25 @@ stretchCases p place new =
     ∷ (((protocolOf p ≡ 1) × (length new ≢ 0) × (Zeros p p ⊎ Zeros p (put p (bodyOf p + place) new))) leads Blank)
     ∷ []
 
+-- a prefix: IPv4 is another version
+abbrev pub sixCases : List ℕ → List Case
+sixCases p = ((length p ≡ 0) leads Cut) ∷ ((versionOf p ≢ 6) leads Version) ∷ editCases p
+
+-- p has those bytes from a on
+abbrev pub Reads : List ℕ → ℕ → List ℕ → Type 0
+Reads p a xs = (i : ℕ) → i < length xs → byteAt p (a + i) ≡ byteAt xs i
+
+abbrev pub prefixCases : List ℕ → ℕ → List ℕ → List ℕ → List Case
+prefixCases p side expected new =
+    (((side ≢ 0) × (side ≢ 1)) leads Place)
+    ∷ ((length expected ≢ 6) leads Place)
+    ∷ ((length new ≢ 6) leads Place)
+    ∷ ((¬ Reads p (sideAt p side) expected) leads Place)
+    ∷ ((wordAt p (sideAt p side + 6) ≡ 65535) leads Place)
+    ∷ []
+
 abbrev pub casesOf : Edit → List ℕ → List Case
 casesOf lifetime p = outerCases p ++ lifetimeCases p
 casesOf (address side new) p = editCases p ++ addressCases p side new
 casesOf (stretch place new) p = editCases p ++ stretchCases p place new
+casesOf (prefix side expected new) p = sixCases p ++ prefixCases p side expected new

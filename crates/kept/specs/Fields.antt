@@ -10,17 +10,19 @@ use Rattle.verdicts.specs.declared.Verdict.the-variants.{Good}
 use Rattle.wire.specs.Inner.{pseudo}
 use Rattle.cover.specs.Sums.{headerSums, messageSums}
 use Rattle.mend.specs.Fresh.{Sum, header, message, used}
-use Rattle.kept.specs.Runs.{Edit, lifetime, address, stretch, apply}
+use Rattle.kept.specs.Runs.{Edit, lifetime, address, stretch, prefix, apply}
 
 -- it covers what an edit writes: the header's is updated after lifetime and address edits, the message's after an address edit where
--- there is a pseudo-header, and after a nonempty stretch
+-- there is a pseudo-header, and after a nonempty stretch; an exchanged prefix leaves every sum's class, so no field is updated
 abbrev pub covers : Sum → Edit → List ℕ → Bool
 covers header lifetime p = true
 covers header (address side new) p = true
 covers header (stretch place new) p = false
+covers header (prefix side expected new) p = false
 covers message lifetime p = false
 covers message (address side new) p = pseudo p
 covers message (stretch place new) p = not (eqb (length new) 0)
+covers message (prefix side expected new) p = false
 
 abbrev pub updates : Sum → Edit → List ℕ → Bool
 updates s e p = covers s e p && used s p

@@ -11,17 +11,20 @@ use Rattle.wire.specs.Bytes.{Bytes, put}
 use Rattle.wire.specs.Outer.{lifetimeAt, outerRules}
 use Rattle.wire.specs.Inner.{bodyOf}
 use Rattle.kept.specs.Edits.{editRules, lowered, lifetimeRules, lifetimeOf, sideAt, addressRules, addressOf, stretchRules, stretchOf}
+use Rattle.kept.specs.Prefix.{sixRules, prefixRules, prefixNew, prefixOf}
 
 pub data Edit : Type 0 where
   lifetime : Edit
   address : ℕ → List ℕ → Edit
   stretch : ℕ → List ℕ → Edit
+  prefix : ℕ → List ℕ → List ℕ → Edit
 
--- an edit's answer and what it leaves: what the three functions promise
+-- an edit's answer and what it leaves: what the four functions promise
 abbrev pub apply : Edit → List ℕ → Verdict × List ℕ
 apply lifetime p = lifetimeOf p
 apply (address side new) p = addressOf p side new
 apply (stretch place new) p = stretchOf p place new
+apply (prefix side expected new) p = prefixOf p side expected new
 
 -- one edit after the other, refused ones included
 abbrev pub run : List Edit → List ℕ → List ℕ
@@ -33,17 +36,20 @@ abbrev pub rulesOf : Edit → List ℕ → List Rule
 rulesOf lifetime p = outerRules p ++ lifetimeRules p
 rulesOf (address side new) p = editRules p ++ addressRules p side new
 rulesOf (stretch place new) p = editRules p ++ stretchRules p place new
+rulesOf (prefix side expected new) p = sixRules p ++ prefixRules p side expected new
 
 -- where an edit writes, and what
 abbrev pub placeOf : Edit → List ℕ → ℕ
 placeOf lifetime p = lifetimeAt p
 placeOf (address side new) p = sideAt p side
 placeOf (stretch place new) p = bodyOf p + place
+placeOf (prefix side expected new) p = sideAt p side
 
 abbrev pub newOf : Edit → List ℕ → List ℕ
 newOf lifetime p = lowered p
 newOf (address side new) p = new
 newOf (stretch place new) p = new
+newOf (prefix side expected new) p = prefixNew p (sideAt p side) new
 
 -- the bytes r with what an edit that p accepts writes
 abbrev pub written : Edit → List ℕ → List ℕ → List ℕ
@@ -60,6 +66,7 @@ abbrev pub Fit : Edit → Type 0
 Fit lifetime = Unit
 Fit (address side new) = Bytes new
 Fit (stretch place new) = Bytes new
+Fit (prefix side expected new) = Bytes new
 
 abbrev pub Fits : List Edit → Type 0
 Fits [] = Unit

@@ -101,14 +101,19 @@ module _ {p q r : List ℕ} (k : Facts p) (a : Same p q) (b : Same p r) where
       ap₂ (λ c s. c && not s) (carries-same (same-layout b) ∙ sym (carries-same (same-layout a)))
       (ap₂ _&&_ (silent-carry e) (four-same (b .header) ∙ sym (four-same (a .header))))
 
-  module _ (t : messageTotal r ≡ messageTotal q) (e : wordAt r (fieldAt p) ≡ wordAt q (fieldAt p)) where
-    pub fresh-carry : freshMessage r ≡ freshMessage q
-    fresh-carry =
-        let x : messageTotal (putWord r (fieldAt p) 0) ≡ messageTotal (putWord q (fieldAt p) 0) = omega (arith, asideF k a, asideF k b) in
-        freshF k b ∙ rw x (sym (freshF k a))
+  -- the fold but for the field decides what is fresh, and equal totals have one
+  pub aside-carry : messageTotal r ≡ messageTotal q → wordAt r (fieldAt p) ≡ wordAt q (fieldAt p)
+      → fold (messageTotal (putWord r (fieldAt p) 0)) ≡ fold (messageTotal (putWord q (fieldAt p) 0))
+  aside-carry t e =
+      let x : messageTotal (putWord r (fieldAt p) 0) ≡ messageTotal (putWord q (fieldAt p) 0) = omega (arith, asideF k a, asideF k b) in
+      ap fold x
 
-    pub message-fresh : Fresh message q → Fresh message r
-    message-fresh m u =
+  module _ (t : fold (messageTotal (putWord r (fieldAt p) 0)) ≡ fold (messageTotal (putWord q (fieldAt p) 0))) where
+    pub fresh-carry : freshMessage r ≡ freshMessage q
+    fresh-carry = freshF k b ∙ rw t (sym (freshF k a))
+
+    pub message-fresh : wordAt r (fieldAt p) ≡ wordAt q (fieldAt p) → Fresh message q → Fresh message r
+    message-fresh e m u =
         ap (wordAt r) (field-same (b .header)) ∙ e ∙ ap (wordAt q) (sym (field-same (a .header))) ∙ m (sym (used-carry e) ∙ u) ∙ sym fresh-carry
 
 -- mending the header leaves the layout

@@ -21,7 +21,7 @@ use Rattle.cover.proofs.Blocks.{header-out, header-word, message-out, message-f
 use Rattle.mend.specs.Fresh.{sent, freshHeader, freshMessage, Sum, header, message, used, placed, freshOf, Fresh}
 use Rattle.mend.specs.Mend.{mendedHeader, mendedMessage, Outside}
 use Rattle.mend.proofs.Numbers.{sent-some, sent-small}
-use Rattle.mend.proofs.Fresh.{each, used-sums, writeH, writeF, sameH, sameF, asideH, asideF, freshF, header-fresh, silent-carry, fresh-carry}
+use Rattle.mend.proofs.Fresh.{each, used-sums, writeH, writeF, sameH, sameF, asideH, asideF, freshF, header-fresh, silent-carry, aside-carry, fresh-carry}
 
 -- ---- the header's field set
 record HeaderSet (p q : List ℕ) : Type 0 where
@@ -135,7 +135,7 @@ both-set p c =
       bytes = λ b. m .bytes (h .bytes b);
       sets = each (λ s. used s p ≡ true → wordAt (mendedMessage (mendedHeader p)) (placed s p) ≡ freshOf s p)
           (λ f. m .field ∙ h .word f)
-          (λ u. m .word (s ∙ used-sums p u) ∙ fresh-carry k z (h .same) (h .total) (h .field));
+          (λ u. m .word (s ∙ used-sums p u) ∙ fresh-carry k z (h .same) (aside-carry k z (h .same) (h .total) (h .field)));
       kept = λ u. m .kept (s ∙ u) ∙ h .field;
       fresh = each (λ s. Fresh s (mendedMessage (mendedHeader p))) (m .header (h .fresh)) (m .fresh);
       silent = m .silent ∙ s;

@@ -4,9 +4,12 @@ use mathlib.Core.Path.{_≡_}
 use mathlib.Core.List.{List}
 use mathlib.Core.Bool.{Bool}
 use Rattle.verdicts.specs.Choice.{if_then_else_}
+use Rattle.verdicts.specs.Rules.{first}
+use Rattle.verdicts.specs.declared.Verdict.{Verdict}
 use Rattle.sums.specs.Fold.{fold, swap}
 use Rattle.sums.specs.Update.{updated}
 use Rattle.wire.specs.Bytes.{putWord}
+use Rattle.judge.specs.Judge.{missingRule}
 use Rattle.mend.specs.Fresh.{sent}
 
 -- d is what the total n has more than the total m, both read low byte first, which is to take them 256 times
@@ -21,3 +24,7 @@ pub record Renewed (udp : Bool) (hc d w : ℕ) : Type 0 where
 -- q with the word w, low byte first, in the message's field, unless that is quiet
 abbrev pub messagePut : Bool → ℕ → List ℕ → ℕ → List ℕ
 messagePut quiet f q w = if quiet then q else putWord q f (swap w)
+
+-- what an edit answers that finds the message's shape right: x, unless UDP's sum is missing
+abbrev pub unlessMissing : List ℕ → Verdict × List ℕ → Verdict × List ℕ
+unlessMissing p x = first (missingRule p) (λ v. (v, p)) x

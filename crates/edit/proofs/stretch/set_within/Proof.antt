@@ -5,7 +5,8 @@ use native.Mathlib.Omega.{arith}
 use mathlib.Core.List.{List}
 use denote.Ref.{now}
 use Rattle.steps.proofs.Common.{Known, known}
-use Rattle.edit.specs.Rest.{unlessMissing, stretchIn}
+use Rattle.steps.specs.Steps.{unlessMissing}
+use Rattle.edit.specs.Rest.{stretchIn}
 use Rattle.edit.proofs.Stretches.{too-long, empty-kept, blank-refused, stretch-set}
 use borrow.Author.Needs.{needs}
 use Rattle.edit.proofs.stretch.set_within.Statement.{statement}
