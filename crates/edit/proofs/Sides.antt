@@ -19,6 +19,7 @@ use Rattle.wire.specs.declared.Message.{Message}
 use Rattle.wire.proofs.Held.{pseudo-six, held-silent}
 use Rattle.kept.specs.Update.{headerAfter}
 use Rattle.kept.specs.Edits.{addressLeft, sideAt}
+use Rattle.kept.proofs.Sides.{side-known, side-at}
 use Rattle.steps.specs.Steps.{Change, Renewed, messagePut}
 use Rattle.edit.specs.Rest.{addressIn}
 use Rattle.edit.proofs.Made.{header-made, message-made}
@@ -30,16 +31,10 @@ module _ (p : List ℕ) (side : ℕ) (new : List ℕ) where
 
   -- a side that is known leaves the size and what is written
   pub other-size : side ≤ 1 → (length new ≡ addressSize p → ⊥) → _≡_ {A = Verdict × List ℕ} (Place, p) (addressIn p side new)
-  other-size h n =
-      by-cases (eqb side 0)
-      (λ t. simp (t, ne-eqb (length new) (addressSize p) n))
-      (λ t. let z : ¬ (side ≡ 0) = eqb-false side 0 t in simp (t, eq-eqb side 1 (omega arith), ne-eqb (length new) (addressSize p) n))
+  other-size h n = simp (side-known side h, ne-eqb (length new) (addressSize p) n)
 
   pub side-set : side ≤ 1 → length new ≡ addressSize p → _≡_ {A = Verdict × List ℕ} (Good, addressLeft p (sideAt p side) new) (addressIn p side new)
-  side-set h n =
-      by-cases (eqb side 0)
-      (λ t. sym (simp (t, eq-eqb (length new) (addressSize p) n)))
-      (λ t. let z : ¬ (side ≡ 0) = eqb-false side 0 t in sym (simp (t, eq-eqb side 1 (omega arith), eq-eqb (length new) (addressSize p) n)))
+  side-set h n = sym (simp (side-known side h, eq-eqb (length new) (addressSize p) n))
 
 -- ---- IPv6: UDP's 0000 is missing, and every message has a pseudo-header
 pub summed6 : (p : List ℕ) → four p ≡ false → (silentOf p && not (four p)) ≡ false → silentOf p ≡ false
@@ -56,25 +51,19 @@ pub record Sided (p : List ℕ) (side a : ℕ) : Type 0 where
   pub within : odd (a - addressesAt p) ≡ false
 
 module _ (p : List ℕ) (side : ℕ) (h : side ≤ 1) where
-  side-at : addressesAt p + addressSize p * side ≡ sideAt p side
-  side-at =
-      by-cases (eqb side 0)
-      (λ t. let z = eqb-true side 0 t in simp t (rw z (omega arith)))
-      (λ t. let n : ¬ (side ≡ 0) = eqb-false side 0 t in let z : side ≡ 1 = omega arith in simp t (rw z (omega arith)))
-
   pub sided4 : four p ≡ true → Sided p side (12 + 4 * side)
   unfolding odd
   sided4 f =
       let x : (12 + 4 * side) % 2 ≡ 0 = omega arith in
       let y : (12 + 4 * side - 12) % 2 ≡ 0 = omega arith in
-      record { known = h; at = simp f (simp f at side-at); even = rw x; within = simp f (rw y) }
+      record { known = h; at = simp f (simp f at (side-at side h p)); even = rw x; within = simp f (rw y) }
 
   pub sided6 : four p ≡ false → Sided p side (8 + 16 * side)
   unfolding odd
   sided6 f =
       let x : (8 + 16 * side) % 2 ≡ 0 = omega arith in
       let y : (8 + 16 * side - 8) % 2 ≡ 0 = omega arith in
-      record { known = h; at = simp f (simp f at side-at); even = rw x; within = simp f (rw y) }
+      record { known = h; at = simp f (simp f at (side-at side h p)); even = rw x; within = simp f (rw y) }
 
 -- ---- what is left where d is the change of its bytes
 module _ (p : List ℕ) (side a d : ℕ) (new : List ℕ) (s : Sided p side a) (n : length new ≡ addressSize p)

@@ -16,6 +16,7 @@ ghost use Rattle.sums.specs.Update.{updated};
 ghost use Rattle.judge.specs.Judge.{judgeOf};
 ghost use Rattle.mend.specs.Mend.{mendOf};
 ghost use Rattle.kept.specs.Edits.{lifetimeOf, addressOf, stretchOf};
+ghost use Rattle.kept.specs.Prefix.{prefixOf};
 ghost use Rattle.capture.specs.Judged.{judgedOf};
 ghost use Rattle.hifrostum.specs.Answers.{numbered, counted, summed};
 
@@ -57,6 +58,19 @@ pub extern "C" fn hifrostum_set_stretch(packet: &mut [u8], place: usize, bytes: 
     ensures { λ r. ⌜ (r, now (packet .exit)) ≡ numbered (stretchOf (now (packet .entry)) place (now (bytes .entry))) ⌝ }
 {
     verdicts::number(edit::set_stretch(packet, place, bytes))
+}
+
+// Exchanges the prefix of the source (side 0) or of the destination (side 1).
+#[no_mangle]
+pub extern "C" fn hifrostum_exchange_prefix(
+    packet: &mut [u8],
+    side: u32,
+    expected: &[u8],
+    new: &[u8],
+) -> u8
+    ensures { λ r. ⌜ (r, now (packet .exit)) ≡ numbered (prefixOf (now (packet .entry)) side (now (expected .entry)) (now (new .entry))) ⌝ }
+{
+    verdicts::number(prefix::exchange_prefix(packet, side, expected, new))
 }
 
 // One verdict number for each record of a capture.

@@ -133,6 +133,12 @@ begins-tells (x ∷ xs) (y ∷ ys) l =
     at z zero h = z .0
     at z (suc i) h = z .1 i (omega arith)
 
+-- the address at a begins with those bytes
+pub prefix-tells : (p : List ℕ) (a : ℕ) (expected : List ℕ) → a + 16 ≤ length p → length expected ≡ 6 → Tells (beginsWith (addressAt p a) expected) (Reads p a expected)
+prefix-tells p a expected fits n =
+    as-tells (begins-tells (addressAt p a) expected (omega (arith, part-length p a 16 fits)))
+    (λ r i l. sym (part-byte p a 16 i (omega arith)) ∙ r i l) (λ r i l. part-byte p a 16 i (omega arith) ∙ r i l)
+
 prefix-told : (p : List ℕ) (side : ℕ) (expected new : List ℕ) → sideAt p side + 16 ≤ length p → Told (prefixRules p side expected new) (prefixCases p side expected new)
 prefix-told p side expected new fits =
     let a = sideAt p side in
@@ -140,11 +146,7 @@ prefix-told p side expected new fits =
     next (size-tells (length expected) 6, refl) λ x.
     next (size-tells (length new) 6, refl) λ y.
     let n : length expected ≡ 6 = eqb-true (length expected) 6 (not-false (eqb (length expected) 6) x) in
-    next (
-      as-tells (not-tells (beginsWith (addressAt p a) expected) (begins-tells (addressAt p a) expected (omega (arith, part-length p a 16 fits))))
-          (λ h r. h (λ i l. part-byte p a 16 i (omega arith) ∙ r i l)) (λ h r. h (λ i l. sym (part-byte p a 16 i (omega arith)) ∙ r i l)),
-      refl,
-    ) λ b.
+    next (not-tells (beginsWith (addressAt p a) expected) (prefix-tells p a expected fits n), refl) λ b.
     next (eqb-tells (wordAt p (a + 6)) 65535, refl) λ w.
     tt
 

@@ -1,11 +1,12 @@
 -- The two sides' places.
-use Prim.Native.Nat.{ℕ, _+_, _-_, _%_}
+use Prim.Native.Nat.{ℕ, _+_, _-_, _*_, _%_, _≤_}
 use mathlib.Core.Path.{_≡_, refl}
 use mathlib.Core.List.{List}
+use mathlib.Core.Bool.{true, _||_}
 use native.Mathlib.Omega.{arith}
 use lib.ListN.{length}
 use lib.Dec.{eqb}
-use borrow.Author.Tests.{eqb-true, not-false}
+use borrow.Author.Tests.{eq-eqb, eqb-true, eqb-false, not-false}
 use Rattle.verdicts.specs.Rules.{clear}
 use Rattle.verdicts.proofs.Tests.{by-cases}
 use Rattle.wire.specs.Outer.{four, addressesAt, addressSize, addressesLength}
@@ -37,3 +38,17 @@ module _ (p : List ℕ) where
   pub side-addressed : (side : ℕ) (new : List ℕ) → clear (addressRules p side new) → Addressed p (sideAt p side) (length new)
   side-addressed side new c =
       side-fits side (length new) (eqb-true (length new) (addressSize p) (not-false (eqb (length new) (addressSize p)) (c .1 .0)))
+
+-- ---- sides 0 and 1 are known, and their addresses stand one behind the other
+module _ (side : ℕ) (h : side ≤ 1) where
+  pub side-known : (eqb side 0 || eqb side 1) ≡ true
+  side-known =
+      by-cases (eqb side 0)
+      (λ t. simp t)
+      (λ t. let n : ¬ (side ≡ 0) = eqb-false side 0 t in simp (t, eq-eqb side 1 (omega arith)))
+
+  pub side-at : (p : List ℕ) → addressesAt p + addressSize p * side ≡ sideAt p side
+  side-at p =
+      by-cases (eqb side 0)
+      (λ t. let z = eqb-true side 0 t in simp t (rw z (omega arith)))
+      (λ t. let n : ¬ (side ≡ 0) = eqb-false side 0 t in let z : side ≡ 1 = omega arith in simp t (rw z (omega arith)))

@@ -124,7 +124,6 @@ module _ {p q : List ℕ} (a : UpToTail p q) where
   rules-alike (stretch place new) =
       alike-append (editRules p) (editRules q) (stretchRules p place new) (stretchRules q place new) edit-alike
       (λ c. stretch-alike (accepted p c .whole) place new)
-
   rules-alike (prefix side expected new) =
       let at = sideAt p side in
       alike-append (sixRules p) (sixRules q) (prefixRules p side expected new) (prefixRules q side expected new)

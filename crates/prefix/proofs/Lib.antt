@@ -1,0 +1,3 @@
+-- What the code answers and writes is what the exchange is.
+pub mod Numbers
+pub mod Answers

@@ -1,0 +1,2 @@
+-- Steps of the code of the prefix edit.
+pub mod Rest
