@@ -30,7 +30,7 @@ use Rattle.kept.specs.Edits.{editRules, lifetimeRules, sideAt, addressRu
 use Rattle.kept.specs.Prefix.{addressAt, sixRules, beginsWith, prefixRules}
 use Rattle.kept.specs.Runs.{Edit, lifetime, address, stretch, prefix, apply, rulesOf}
 use Rattle.kept.specs.Cases.{editCases, lifetimeCases, addressCases, Zeros, stretchCases, sixCases, Reads, prefixCases, casesOf}
-use Rattle.kept.proofs.Prefix.{side-in}
+use Rattle.kept.proofs.Prefix.{side-in, prefix-tells}
 use Rattle.kept.proofs.Single.{made, apply-as}
 
 -- ---- all zeros
@@ -121,24 +121,6 @@ module _ (p : List ℕ) (c : clear (editRules p)) where
       tt
 
 -- ---- and a prefix's
-begins-tells : (xs ys : List ℕ) → length ys ≤ length xs → Tells (beginsWith xs ys) ((i : ℕ) → i < length ys → byteAt xs i ≡ byteAt ys i)
-begins-tells xs [] l = yes-tells (λ i h. absurd (omega arith))
-begins-tells [] (y ∷ ys) l = absurd (omega arith)
-begins-tells (x ∷ xs) (y ∷ ys) l =
-    as-tells (and-tells (eqb x y) (beginsWith xs ys) (eqb-tells x y) (begins-tells xs ys (omega arith)))
-    (λ z i h. at z i h)
-    (λ n. (n 0 (omega arith), λ i h. n (suc i) (omega arith)))
-  where
-    at : (x ≡ y) × ((i : ℕ) → i < length ys → byteAt xs i ≡ byteAt ys i) → (i : ℕ) → i < suc (length ys) → byteAt (x ∷ xs) i ≡ byteAt (y ∷ ys) i
-    at z zero h = z .0
-    at z (suc i) h = z .1 i (omega arith)
-
--- the address at a begins with those bytes
-pub prefix-tells : (p : List ℕ) (a : ℕ) (expected : List ℕ) → a + 16 ≤ length p → length expected ≡ 6 → Tells (beginsWith (addressAt p a) expected) (Reads p a expected)
-prefix-tells p a expected fits n =
-    as-tells (begins-tells (addressAt p a) expected (omega (arith, part-length p a 16 fits)))
-    (λ r i l. sym (part-byte p a 16 i (omega arith)) ∙ r i l) (λ r i l. part-byte p a 16 i (omega arith) ∙ r i l)
-
 prefix-told : (p : List ℕ) (side : ℕ) (expected new : List ℕ) → sideAt p side + 16 ≤ length p → Told (prefixRules p side expected new) (prefixCases p side expected new)
 prefix-told p side expected new fits =
     let a = sideAt p side in

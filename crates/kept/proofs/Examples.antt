@@ -1,12 +1,13 @@
 -- Packets that show what the definitions say: each statement is computed. The datagram is the paper's eleventh example.
 use Prim.Native.Nat.{ℕ}
-use mathlib.Core.Path.{_≡_, refl}
-use mathlib.Core.List.{List, [], _∷_}
+use mathlib.Core.Path.{_≡_, refl, ap}
+use native.Mathlib.Omega.{arith}
+use mathlib.Core.List.{List, [], _∷_, _++_}
 use mathlib.Core.Bool.{true, false}
 use Rattle.verdicts.specs.declared.Verdict.{Verdict}
-use Rattle.verdicts.specs.declared.Verdict.the-variants.{Good, Shape, HeaderSum, Fragment, Uncovered, Missing, MessageSum, Place, Blank}
-use Rattle.sums.specs.Total.{odd, weigh}
-use Rattle.sums.specs.Fold.{fold, passes}
+use Rattle.verdicts.specs.declared.Verdict.the-variants.{Good, Version, Shape, HeaderSum, Fragment, Uncovered, Missing, MessageSum, Place, Blank}
+use Rattle.sums.specs.Total.{odd, weigh, total}
+use Rattle.sums.specs.Fold.{fold, fieldOf, passes}
 use Rattle.sums.specs.Update.{equation3, updated}
 use Rattle.wire.specs.Bytes.{put}
 use Rattle.wire.specs.Outer.{familyOf, headerEnd, declaredEnd, nextOf, fragmentOf, outerRules}
@@ -19,7 +20,10 @@ use Rattle.judge.specs.Judge.{sumRules, judgeRules, judgeOf}
 use Rattle.mend.specs.Fresh.{sent, freshHeader, freshMessage, header, message, used}
 use Rattle.kept.specs.Update.{updatedAt, headerAfter, messageAfter}
 use Rattle.kept.specs.Edits.{editRules, lifetimeOf, addressOf, blank, stretchOf}
-use Rattle.kept.specs.Runs.{lifetime, address, stretch, apply, run}
+use Rattle.kept.specs.Prefix.{withWord, prefixOf}
+use Rattle.kept.specs.Rfc.{adjustment, outward, inward}
+use Rattle.kept.specs.Runs.{lifetime, address, stretch, prefix, apply, run}
+use Rattle.kept.proofs.Prefix.{word-as}
 
 -- UDP over IPv4: its lifetime, header field, last bytes of the addresses, message field and data
 abbrev datagram : ℕ → ℕ → ℕ → ℕ → ℕ → ℕ → ℕ → ℕ → ℕ → List ℕ
@@ -149,3 +153,34 @@ blank-after : (apply (stretch 0 (0 ∷ [])) (icmp 0xF7 0xFF 8) .0 ≡ Blank)
     × (messageAfter (icmp 0xF7 0xFF 8) 8 28 (0 ∷ []) (icmp 0xF7 0xFF 0) ≡ icmp 0 0 0)
 unfolding weigh fold equation3 updated put odd familyOf startOf headerEnd carriedOf endOf declaredEnd protocolOf nextOf fragmentOf walkOf walkRules outerRules rowOf saidIn fieldAt bodyOf pseudo silentOf messageRules shapeRules wholeRules sent updatedAt messageAfter editRules blank stretchOf
 blank-after = (refl, refl)
+
+-- ---- RFC 6296's printed example: FD01:0203:0405/48 inside, 2001:0DB8:0001/48 outside, and the host FD01:0203:0405:0001::1234
+abbrev inside : List ℕ
+inside = 0xFD ∷ 0x01 ∷ 0x02 ∷ 0x03 ∷ 0x04 ∷ 0x05 ∷ []
+
+abbrev outside : List ℕ
+outside = 0x20 ∷ 0x01 ∷ 0x0D ∷ 0xB8 ∷ 0x00 ∷ 0x01 ∷ []
+
+-- the numbers that it shows on the way: the prefixes' checksums, the adjustment, the word out, and the word back in
+shown : (fieldOf (fold (total inside)) ≡ 0xFCF5) × (fieldOf (fold (total outside)) ≡ 0xD245) × (adjustment inside outside ≡ 0xD54F)
+    × (outward inside outside 0x0001 ≡ 0xD550) × (inward inside outside 0xD550 ≡ 0x0001)
+unfolding weigh fold
+shown = (refl, refl, refl, refl, refl)
+
+-- a datagram from that host, by the six bytes of its prefix and the word behind them
+abbrev sent-by : List ℕ → ℕ → ℕ → List ℕ
+sent-by six high low =
+    0x60 ∷ 0x00 ∷ 0x00 ∷ 0x00 ∷ 0x00 ∷ 0x0A ∷ 0x11 ∷ 0x40
+    ∷ (six ++ (high ∷ low ∷ 0x00 ∷ 0x00 ∷ 0x00 ∷ 0x00 ∷ 0x00 ∷ 0x00 ∷ 0x12 ∷ 0x34
+    ∷ 0x20 ∷ 0x01 ∷ 0x0D ∷ 0xB8 ∷ 0x00 ∷ 0x02 ∷ 0x00 ∷ 0x00 ∷ 0x00 ∷ 0x00 ∷ 0x00 ∷ 0x00 ∷ 0x00 ∷ 0x00 ∷ 0x00 ∷ 0x01
+    ∷ 0x13 ∷ 0x88 ∷ 0x13 ∷ 0x89 ∷ 0x00 ∷ 0x0A ∷ 0x4D ∷ 0x65 ∷ 0x48 ∷ 0x69 ∷ []))
+
+-- it goes out with D550, its UDP field untouched and right; with FFFF it doesn't; IPv4 is another version, cut or not
+exchanged : (apply (prefix 0 inside outside) (sent-by inside 0x00 0x01) ≡ (Good, sent-by outside 0xD5 0x50))
+    × (judgeOf (sent-by inside 0x00 0x01) ≡ Good) × (judgeOf (sent-by outside 0xD5 0x50) ≡ Good)
+    × (apply (prefix 0 inside outside) (sent-by inside 0xFF 0xFF) .0 ≡ Place)
+    × (apply (prefix 0 inside outside) (0x45 ∷ []) .0 ≡ Version)
+unfolding weigh fold passes put odd familyOf startOf headerEnd carriedOf endOf declaredEnd protocolOf nextOf fragmentOf between late unfinishedAt headerRules metOf walkBy walkOf walkRules outerRules rowOf saidIn fieldAt bodyOf pseudo silentOf messageRules shapeRules wholeRules headerTotal messageTotal headerSums messageSums sumRules judgeRules judgeOf editRules prefixOf
+exchanged =
+    let p = sent-by inside 0x00 0x01 in
+    (ap (λ (w : ℕ). (Good, put p 8 (withWord outside w))) (word-as p 8 outside (omega arith) refl), refl, refl, refl, refl)

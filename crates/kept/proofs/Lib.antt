@@ -4,7 +4,9 @@ pub mod Done
 pub mod Steps
 pub mod Changes
 pub mod Prefix
+pub mod Rfc
 pub mod Single
+pub mod Exchange
 pub mod Exactly
 pub mod Sequences
 pub mod Unread

@@ -4,29 +4,31 @@ use mathlib.Core.Logic.{_↔_, inl}
 use Prim.Native.Nat.{ℕ, zero, suc, _+_, _-_, _/_, _%_, _<_, _≤_}
 use native.Mathlib.Omega.{arith}
 use mathlib.Core.List.{List, [], _∷_, _++_}
-use mathlib.Core.Bool.{Bool, true, false, true≢false}
+use mathlib.Core.Bool.{Bool, true, false, _&&_, true≢false}
 use lib.ListN.{length, length-append}
 use lib.Dec.{eqb}
 use borrow.Author.Tests.{eqb-true, eq-eqb, not-false}
 use Rattle.verdicts.specs.Rules.{clear}
 use Rattle.verdicts.proofs.Tests.{by-cases}
 use Rattle.verdicts.proofs.Rules.{clear-both}
+use Rattle.verdicts.proofs.Telling.{Tells, yes-tells, eqb-tells, and-tells, as-tells}
 use Rattle.sums.specs.Total.{odd, weigh, total}
 use Rattle.sums.proofs.Totals.{weigh-even}
-use Rattle.wire.specs.Bytes.{part, put, Bytes}
+use Rattle.wire.specs.Bytes.{byteAt, wordAt, part, put, Bytes}
 use Rattle.wire.specs.Outer.{four, six, versionOf, addressesAt, outerRules}
 use Rattle.wire.specs.Walk.{walkRules}
 use Rattle.wire.specs.Inner.{fieldAt, messageRules, wholeRules}
-use Rattle.wire.proofs.Parts.{bytes-append}
+use Rattle.wire.proofs.Parts.{part-length, part-byte, part-add, bytes-append}
 use Rattle.wire.proofs.Writes.{bytes-word, bytes-wrote, put-wrote, word-above}
 use Rattle.wire.proofs.Held.{pseudo-six}
 use Rattle.wire.proofs.Same.{same-self, same-step, soft-header}
-use Rattle.cover.proofs.Around.{part-around}
+use Rattle.cover.proofs.Around.{part-around, word-weigh}
 use Rattle.cover.proofs.Blocks.{message-address}
 use Rattle.judge.proofs.Kept.{Accepted}
 use Rattle.mend.proofs.Mending.{outside}
 use Rattle.kept.specs.Edits.{Addressed, sideAt}
-use Rattle.kept.specs.Prefix.{class, addressAt, withWord, keepsClass, oneBelow, wordOf, sixRules, prefixRules, prefixNew, prefixLeft}
+use Rattle.kept.specs.Prefix.{class, addressAt, withWord, keepsClass, oneBelow, wordOf, beginsWith, sixRules, prefixRules, prefixNew, prefixLeft}
+use Rattle.kept.specs.Cases.{Reads}
 use Rattle.kept.proofs.Done.{header-none, message-class}
 use Rattle.kept.proofs.Sides.{side-fits}
 use Rattle.kept.proofs.Steps.{accepted, Kept}
@@ -86,6 +88,33 @@ module _ (p : List ℕ) (a : ℕ) (new : List ℕ) (fits : a + 16 ≤ length p) 
 
   pub new-class : class (prefixNew p a new) ≡ class (part p a 8)
   new-class = ap (λ n. n % 65535) (with-total (wordOf p a new)) ∙ keeps-tells (wordOf p a new) .0 word-keeps
+
+-- what stands there: a prefix and its word
+pub eight-total : (p : List ℕ) (a : ℕ) → a + 16 ≤ length p → total (part p a 8) ≡ total (part p a 6) + wordAt p (a + 6)
+unfolding odd
+eight-total p a fits =
+    let n : odd (length (part p a 6)) ≡ false = rw (part-length p a 6 (omega arith)) in
+    ap total (part-add p a 6 2) ∙ weigh-even false (part p a 6) (part p (a + 6) 2) n
+    ∙ ap (λ w. total (part p a 6) + w) (word-weigh p (a + 6) 0 refl (omega arith))
+
+-- ---- the prefix that is expected
+begins-tells : (xs ys : List ℕ) → length ys ≤ length xs → Tells (beginsWith xs ys) ((i : ℕ) → i < length ys → byteAt xs i ≡ byteAt ys i)
+begins-tells xs [] l = yes-tells (λ i h. absurd (omega arith))
+begins-tells [] (y ∷ ys) l = absurd (omega arith)
+begins-tells (x ∷ xs) (y ∷ ys) l =
+    as-tells (and-tells (eqb x y) (beginsWith xs ys) (eqb-tells x y) (begins-tells xs ys (omega arith)))
+    (λ z i h. at z i h)
+    (λ n. (n 0 (omega arith), λ i h. n (suc i) (omega arith)))
+  where
+    at : (x ≡ y) × ((i : ℕ) → i < length ys → byteAt xs i ≡ byteAt ys i) → (i : ℕ) → i < suc (length ys) → byteAt (x ∷ xs) i ≡ byteAt (y ∷ ys) i
+    at z zero h = z .0
+    at z (suc i) h = z .1 i (omega arith)
+
+-- the address at a begins with those bytes
+pub prefix-tells : (p : List ℕ) (a : ℕ) (expected : List ℕ) → a + 16 ≤ length p → length expected ≡ 6 → Tells (beginsWith (addressAt p a) expected) (Reads p a expected)
+prefix-tells p a expected fits n =
+    as-tells (begins-tells (addressAt p a) expected (omega (arith, part-length p a 16 fits)))
+    (λ r i l. sym (part-byte p a 16 i (omega arith)) ∙ r i l) (λ r i l. part-byte p a 16 i (omega arith) ∙ r i l)
 
 -- ---- what is known where no rule refuses
 pub record Exchanging (p : List ℕ) (side : ℕ) (new : List ℕ) : Type 0 where

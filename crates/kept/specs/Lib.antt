@@ -2,6 +2,7 @@
 pub mod Update
 pub mod Edits
 pub mod Prefix
+pub mod Rfc
 pub mod Runs
 pub mod Fields
 pub mod Cases
