@@ -14,7 +14,7 @@ use Rattle.verdicts.specs.declared.Verdict.{Verdict}
 use Rattle.verdicts.proofs.Tests.{by-cases}
 use Rattle.verdicts.proofs.Rules.{clear-both}
 use Rattle.verdicts.proofs.Calls.{call-answers}
-use Rattle.verdicts.proofs.Telling.{Tells, yes-tells, eqb-tells, ltb-tells, not-tells, and-tells, or-tells, as-tells, Told, next, told-append, told-exactly}
+use Rattle.verdicts.proofs.Telling.{Tells, eqb-tells, ltb-tells, not-tells, and-tells, or-tells, as-tells, Told, next, told-append, told-exactly}
 use Rattle.wire.specs.Bytes.{byteAt, wordAt, part, put, putWord}
 use Rattle.wire.specs.Outer.{four, versionOf, lifetimeAt, addressSize, outerRules}
 use Rattle.wire.specs.Inner.{protocolOf, startOf, endOf, lengthOf, fieldAt, bodyOf, wholeRules}
@@ -29,7 +29,7 @@ use Rattle.judge.proofs.Exactly.{outer-told, whole-told, missing-told}
 use Rattle.kept.specs.Edits.{editRules, lifetimeRules, sideAt, addressRules, allZero, blank, stretchRules}
 use Rattle.kept.specs.Prefix.{addressAt, sixRules, beginsWith, prefixRules}
 use Rattle.kept.specs.Runs.{Edit, lifetime, address, stretch, prefix, apply, rulesOf}
-use Rattle.kept.specs.Cases.{editCases, lifetimeCases, addressCases, Zeros, stretchCases, sixCases, Reads, prefixCases, casesOf}
+use Rattle.kept.specs.Cases.{editCases, lifetimeCases, addressCases, Zeros, stretchCases, sixCases, prefixCases, casesOf}
 use Rattle.kept.proofs.Prefix.{side-in, prefix-tells}
 use Rattle.kept.proofs.Single.{made, apply-as}
 

@@ -11,11 +11,10 @@ use lib.Seq.{ext-getD}
 use lib.Dec.{ltb, eqb}
 use borrow.Author.Tests.{ne-eqb, eqb-true, eqb-false, ltb-true, ltb-false, not-false}
 use Rattle.verdicts.specs.Rules.{clear}
-use Rattle.verdicts.specs.declared.Verdict.{Verdict}
 use Rattle.verdicts.specs.declared.Verdict.the-variants.{Good}
 use Rattle.verdicts.proofs.Tests.{by-cases}
 use Rattle.verdicts.proofs.Rules.{clear-both, clear-join}
-use Rattle.sums.specs.Total.{odd, weigh, total}
+use Rattle.sums.specs.Total.{odd, total}
 use Rattle.sums.proofs.Folds.{mod-plus}
 use Rattle.sums.proofs.Totals.{weigh-append}
 use Rattle.wire.specs.Bytes.{byteAt, wordAt, part, put, putWord, Bytes}
@@ -28,8 +27,8 @@ use Rattle.cover.proofs.Around.{part-around}
 use Rattle.judge.specs.Judge.{judgeOf}
 use Rattle.mend.specs.Fresh.{Sum, Fresh}
 use Rattle.kept.specs.Edits.{editRules, sideAt}
-use Rattle.kept.specs.Prefix.{class, addressAt, withWord, keepsClass, wordOf, beginsWith, sixRules, prefixRules, prefixNew, prefixLeft}
-use Rattle.kept.specs.Runs.{prefix, apply, rulesOf, placeOf, newOf}
+use Rattle.kept.specs.Prefix.{class, addressAt, wordOf, beginsWith, sixRules, prefixRules, prefixNew, prefixLeft}
+use Rattle.kept.specs.Runs.{prefix, apply, rulesOf}
 use Rattle.kept.proofs.Prefix.{with-length, keeps-tells, word-small, word-keeps, word-only, new-class, eight-total, prefix-tells, Exchanging, six-clear}
 use Rattle.kept.proofs.Steps.{Kept}
 use Rattle.kept.proofs.Single.{accepted-done, accepted-clear, edit-either, kept, still}

@@ -18,8 +18,8 @@ use Rattle.wire.specs.Inner.{fieldAt, silentOf, udp, wholeRules}
 use Rattle.wire.proofs.Facts.{OuterFacts, Facts, field-behind}
 use Rattle.wire.proofs.Held.{clear-carries, whole-facts}
 use Rattle.wire.proofs.Writes.{Wrote, bytes-word, bytes-wrote, put-wrote, word-above, word-below}
-use Rattle.wire.proofs.Same.{Same, four-same, same-self, same-step, soft-header}
-use Rattle.cover.specs.Sums.{messageTotal, headerSums}
+use Rattle.wire.proofs.Same.{Same, same-self, same-step, soft-header}
+use Rattle.cover.specs.Sums.{messageTotal}
 use Rattle.cover.proofs.Blocks.{header-in, header-out, message-out}
 use Rattle.judge.specs.Judge.{missingRule}
 use Rattle.judge.proofs.Kept.{Accepted, accepted-whole}

@@ -1,26 +1,24 @@
 -- Each answer of the exchange's own rules, and the bytes that it leaves.
 use Prim.Native.Nat.{ℕ, _+_, _*_, _/_, _%_, _<_, _≤_}
-use mathlib.Core.Path.{_≡_, sym, ap, ap₂, _∙_}
-use mathlib.Core.Bool.{true, false, not}
+use mathlib.Core.Path.{_≡_, sym, ap, _∙_}
+use mathlib.Core.Bool.{true, false}
 use mathlib.Core.List.{List, _++_}
 use native.Mathlib.Omega.{arith}
 use lib.ListN.{length}
-use lib.Dec.{eqb}
-use borrow.Author.Tests.{eq-eqb, ne-eqb, eqb-false}
+use borrow.Author.Tests.{eq-eqb, ne-eqb}
 use Rattle.verdicts.specs.Rules.{first}
-use Rattle.verdicts.specs.declared.Verdict.{Verdict}
 use Rattle.verdicts.specs.declared.Verdict.the-variants.{Good, Cut, Version, Place}
 use Rattle.verdicts.proofs.Tests.{by-cases}
 use Rattle.sums.specs.Fold.{swap}
 use Rattle.sums.specs.Low.{eightAt}
-use Rattle.wire.specs.Bytes.{byteAt, wordAt, part, put, putWord, Bytes}
+use Rattle.wire.specs.Bytes.{wordAt, part, put, putWord, Bytes}
 use Rattle.wire.specs.Outer.{four, versionOf}
 use Rattle.wire.proofs.Parts.{part-byte, part-word, bytes-part}
 use Rattle.wire.proofs.Writes.{put-append}
 use Rattle.kept.specs.Edits.{editRules, sideAt}
 use Rattle.kept.specs.Prefix.{addressAt, beginsWith, prefixRules, prefixLeft, prefixOf}
 use Rattle.kept.proofs.Sides.{side-known, side-at}
-use Rattle.kept.proofs.Exactly.{prefix-tells}
+use Rattle.kept.proofs.Prefix.{prefix-tells}
 use Rattle.prefix.specs.Rest.{sixOf, prefixAt, prefixIn}
 use Rattle.prefix.proofs.Numbers.{six-in, word-in, six-bytes, bytes-six, fitting}
 

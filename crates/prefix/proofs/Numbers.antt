@@ -10,12 +10,11 @@ use lib.ListN.{length}
 use Rattle.sums.specs.Total.{weigh, total}
 use Rattle.sums.specs.Fold.{fold, swap}
 use Rattle.sums.specs.Low.{twoAt, fourAt, eightAt}
-use Rattle.sums.proofs.Folds.{fold-alike, fold-turns, mod-out, mod-in}
+use Rattle.sums.proofs.Folds.{fold-turns, mod-out, mod-in}
 use Rattle.sums.proofs.Rests.{more-two, more-four, more-eight, more-end}
 use Rattle.wire.specs.Bytes.{byteAt, wordAt, part, Bytes}
-use Rattle.wire.proofs.Parts.{part-length, part-byte}
-use Rattle.kept.specs.Prefix.{class, wordOf}
-use Rattle.kept.specs.Cases.{Reads}
+use Rattle.wire.proofs.Parts.{part-length}
+use Rattle.kept.specs.Prefix.{wordOf}
 use Rattle.kept.proofs.Prefix.{keeps-tells, word-only}
 use Rattle.steps.proofs.Changes.{low-change, changes}
 use Rattle.prefix.specs.Rest.{sixOf}

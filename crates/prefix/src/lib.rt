@@ -35,10 +35,10 @@ pub fn exchange_prefix(packet: &mut [u8], side: u32, expected: &[u8], new: &[u8]
     if packet.len() == 0 {
         return Verdict::Cut;
     }
-    if wire::high(packet[0]) != VERSION {
+    if packet[0] >> 4 != VERSION {
         return Verdict::Version;
     }
-    let frame = wire::outer6(packet);
+    let frame = wire::outer(packet);
     match frame {
         Frame::Refused(v) => v,
         Frame::Ip(h) => {

@@ -5,7 +5,7 @@ use mathlib.Core.List.{List}
 use native.Mathlib.Omega.{arith}
 use denote.Ref.{now}
 use Rattle.sums.specs.Low.{eightAt}
-use Rattle.wire.specs.Bytes.{part, Bytes}
+use Rattle.wire.specs.Bytes.{part}
 use Rattle.prefix.specs.Rest.{sixOf}
 use Rattle.prefix.proofs.Answers.{Sized, other-prefix, full, exchanged}
 use borrow.Author.Needs.{needs}

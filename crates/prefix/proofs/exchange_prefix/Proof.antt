@@ -1,16 +1,11 @@
 -- A refusal of the version or of the packet's shape, or what `exchange` leaves.
 use mathlib.Core.Path.{_≡_, _∙_, sym}
 use Prim.Native.Nat.{ℕ}
-use mathlib.Core.Bool.{false}
 use mathlib.Core.List.{List, _++_}
-use native.Mathlib.Omega.{arith}
 use denote.Ref.{now}
-use lib.Dec.{eqb}
-use borrow.Author.Tests.{ne-eqb}
 use Rattle.verdicts.specs.Rules.{first}
-use Rattle.verdicts.specs.declared.Verdict.{Verdict}
 use Rattle.verdicts.specs.declared.Verdict.the-variants.{Good}
-use Rattle.wire.specs.Outer.{four, versionOf, outerOf}
+use Rattle.wire.specs.Outer.{versionOf, outerOf}
 use Rattle.wire.specs.Inner.{wayOf}
 use Rattle.wire.specs.declared.Frame.the-variants.{Ip}
 use Rattle.wire.specs.declared.Walked.the-variants.{Reached}
@@ -28,19 +23,19 @@ P c = now (c .args .packet)
 
 -- the entry, seen from where the version is 6
 abbrev entry : tie.Else2 → tie.Start
-entry c = c .before .before .before .before .before .before .before
+entry c = c .before .before .before .before .before .before
 
 version : (c : tie.Else2) → versionOf (P (entry c)) ≡ 6
-version c = sym (c .before .high .ensures .0) ∙ c .if2 .left
+version c = c .if2 .left
 
 -- there the rules are those of the other edits, and a prefix's own
 past : (c : tie.Else2) → (let a = entry c in
     first (editRules (P a) ++ prefixRules (P a) (a .args .side) (now (a .args .expected)) (now (a .args .new))) (λ v. (v, P a)) (Good, prefixLeft (P a) (sideAt (P a) (a .args .side)) (now (a .args .new)))
     ≡ prefixOf (P a) (a .args .side) (now (a .args .expected)) (now (a .args .new)))
-past c = let a = entry c in past-version (P a) (a .args .side) (now (a .args .expected)) (now (a .args .new)) (c .before .before .before .if1 .left) (version c)
+past c = let a = entry c in past-version (P a) (a .args .side) (now (a .args .expected)) (now (a .args .new)) (c .before .before .if1 .left) (version c)
 
 ip : (c : tie.After-frame2) → Ip (c .frame2 .given .0 .0) ≡ outerOf (P (entry (c .before .before .before .before)))
-ip c = sym (c .frame2 .given .1) ∙ c .before .before .outer6 .ensures
+ip c = sym (c .frame2 .given .1) ∙ c .before .before .outer .ensures
 
 -- where the walk has reached a message
 abbrev F : tie.After-walked2 → tie.After-frame2
@@ -55,7 +50,7 @@ carried c = sym (c .walked2 .given .1) ∙ c .before .before .walk .ensures
 returns-3 : tie.Need-returns-3
 returns-3 c =
     let o = c .before .before .before in
-    refused-outer _ _ _ _ _ (sym (c .before .frame .given .1) ∙ o .outer6 .ensures) ∙ past (o .before .before)
+    refused-outer _ _ _ _ _ (sym (c .before .frame .given .1) ∙ o .outer .ensures) ∙ past (o .before .before)
 
 returns-4 : tie.Need-returns-4
 returns-4 c =
@@ -87,8 +82,7 @@ exchange-prefix-spec =
     (tie.spec
     (λ c. none _ _ _ _ (c .if1 .taken))
     (λ c. search needs)
-    (λ c κs. search needs)
-    (λ c. other-version _ _ _ _ (c .before .before .before .if1 .left) (λ e. c .if2 .taken (c .before .high .ensures .0 ∙ e)))
+    (λ c. other-version _ _ _ _ (c .before .before .if1 .left) (c .if2 .taken))
     (λ c κs. search needs)
     (λ c. search needs)
     (λ c. search needs)
