@@ -5,9 +5,9 @@
  *
  * Who owns what. Every buffer stays the caller's. It is lent for one call, which keeps no pointer,
  * allocates nothing and has no state, so calls on different buffers may run at once. Buffers lent to
- * one call must not overlap, the answers behind pointers among them. A pointer may be null where
- * its length is 0. No other null pointer and no length past the buffer's end is allowed: these the
- * library can't see.
+ * one call must not overlap, the answers behind pointers among them; two that are only read may. A
+ * pointer may be null where its length is 0. No other null pointer and no length past the buffer's
+ * end is allowed: these the library can't see.
  *
  * Packets and tails. A packet begins at its IP header. Bytes past its declared end are a tail, which
  * is neither judged nor changed. So are bytes inside it that follow a UDP datagram: UDP's length says
@@ -54,21 +54,21 @@ extern "C" {
 
 /* The version of this surface. It goes up by one whenever a function, a constant, or what an answer
  * means is added, changed or taken away; CHANGELOG.md says what a host's author must do then. */
-#define HIFROSTUM_SURFACE_VERSION 6
+#define HIFROSTUM_SURFACE_VERSION 7
 
 /* What a call answers. */
 enum hifrostum_verdict {
     HIFROSTUM_GOOD = 0,        /* all sums in use pass, or the call was done */
     HIFROSTUM_UNSUMMED = 1,    /* the IPv4 header passes, the UDP field is 0000 */
     HIFROSTUM_CUT = 2,         /* no bytes, or fewer than a header has or than declared */
-    HIFROSTUM_VERSION = 3,     /* the version is not 4 or 6 */
+    HIFROSTUM_VERSION = 3,     /* the version is not 4 or 6; not 6, where IPv6 alone is taken */
     HIFROSTUM_SHAPE = 4,       /* a length contradicts another */
     HIFROSTUM_HEADER_SUM = 5,  /* the IPv4 header doesn't pass */
     HIFROSTUM_FRAGMENT = 6,    /* more fragments follow, or the offset is not 0; a fragment header */
     HIFROSTUM_UNCOVERED = 7,   /* a protocol not covered in this family, or headers not walked */
     HIFROSTUM_MISSING = 8,     /* UDP over IPv6 with the field 0000 */
     HIFROSTUM_MESSAGE_SUM = 9, /* the message doesn't pass */
-    HIFROSTUM_PLACE = 10,      /* a piece, length, stretch, side or address doesn't fit */
+    HIFROSTUM_PLACE = 10,      /* a piece, length, stretch, side, address or prefix doesn't fit */
     HIFROSTUM_SPENT = 11,      /* the lifetime is 0 or 1 */
     HIFROSTUM_BLANK = 12,      /* an ICMP message that is, or would be, all zeros */
     HIFROSTUM_MARK = 13,       /* a capture without the mark "GLR" */
@@ -92,7 +92,7 @@ uint8_t hifrostum_mend(uint8_t *packet, size_t len);
  * and a missing sum (8) don't stop it, and the verdict stays what it was for these too. So judge
  * first, and send on by the verdict.
  * A damaged packet stays damaged: an edit updates and never mends. In a good one each field that it
- * updates becomes the one that hifrostum_mend would write. This holds of all three edits.
+ * updates becomes the one that hifrostum_mend would write. This holds of every edit.
  * Refusals: the outer ones; 11 if the lifetime is 0 or 1. */
 uint8_t hifrostum_lower_lifetime(uint8_t *packet, size_t len);
 
@@ -106,6 +106,29 @@ uint8_t hifrostum_lower_lifetime(uint8_t *packet, size_t len);
  * 16 (IPv6). */
 uint8_t hifrostum_set_address(uint8_t *packet, size_t len, uint32_t side,
                               const uint8_t *address, size_t address_len);
+
+/* Exchanges the first six bytes of the source (side 0) or destination (side 1) of an IPv6 packet for
+ * a new prefix, and sets the word behind them, the subnet's, so that the address keeps its class
+ * modulo 65535: of 0000 to FFFE exactly one value does. This is RFC 6296 for prefixes of 48 bits. No
+ * sum field is written and none needs to be, whatever the protocol. The verdict stays what it was, a
+ * fresh field stays fresh, and no other byte changes. Both prefixes are read only.
+ * On the way out exchange the source's inside prefix for the outside one, on the way in the
+ * destination's outside prefix for the inside one. Exchanging back restores the address to the byte,
+ * so a relay keeps no table. A new prefix that equals the expected one answers 0 and changes
+ * nothing.
+ * 10 has several reasons. So first compare the six bytes at 8 (source) or 24 (destination) of a
+ * packet that you judged. If they are another prefix, it isn't yours to exchange and goes on as it
+ * is. If they are the expected one and the call refuses, drop it: it would carry the old prefix to
+ * where that isn't to be seen. 10 means then that the subnet is FFFF, which would come back as 0000:
+ * give no subnet that number.
+ * A fragment is refused (6), as by hifrostum_set_address. An address in a routing header, or in the
+ * packet that an ICMPv6 error brings back, is neither read nor written.
+ * Refusals: the shape's, where every version but 6 is 3, so IPv4 too; then 8; 10 for another side, a
+ * prefix not of six bytes, an address that doesn't begin with the expected one, or a word of FFFF
+ * behind it. */
+uint8_t hifrostum_exchange_prefix(uint8_t *packet, size_t len, uint32_t side,
+                                  const uint8_t *expected, size_t expected_len,
+                                  const uint8_t *new_prefix, size_t new_prefix_len);
 
 /* Writes new bytes into the body from a place on, and updates the message field. The body is the
  * message after its fixed header (8 bytes for ICMP and UDP, 4 for ICMPv6), and for TCP after its

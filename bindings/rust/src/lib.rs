@@ -36,6 +36,15 @@ mod c {
             address: *const u8,
             address_len: usize,
         ) -> u8;
+        pub fn hifrostum_exchange_prefix(
+            packet: *mut u8,
+            len: usize,
+            side: u32,
+            expected: *const u8,
+            expected_len: usize,
+            new_prefix: *const u8,
+            new_prefix_len: usize,
+        ) -> u8;
         pub fn hifrostum_set_stretch(
             packet: *mut u8,
             len: usize,
@@ -82,7 +91,7 @@ pub enum Verdict {
     Unsummed = 1,
     /// No bytes, or fewer than a header has or than declared.
     Cut = 2,
-    /// The version is not 4 or 6.
+    /// The version is not 4 or 6; for [`exchange_prefix`], not 6.
     Version = 3,
     /// A length contradicts another.
     Shape = 4,
@@ -96,7 +105,7 @@ pub enum Verdict {
     Missing = 8,
     /// The message doesn't pass.
     MessageSum = 9,
-    /// A piece, length, stretch or address doesn't fit.
+    /// A piece, length, stretch, address or prefix doesn't fit.
     Place = 10,
     /// The lifetime is 0 or 1.
     Spent = 11,
@@ -206,7 +215,7 @@ pub fn mend(packet: &mut [u8]) -> Verdict {
 /// on by the verdict.
 ///
 /// A damaged packet stays damaged: an edit updates and never mends. In a good packet each field that an
-/// edit updates is the one that [`mend`] would write. Both hold of all three edits.
+/// edit updates is the one that [`mend`] would write. Both hold of every edit.
 ///
 /// Fragments get through. The verdict on one is `Fragment`: over IPv4 once the header's sum has passed, and
 /// over IPv6 where a fragment header is met. Nobody on the way judges its message's sum.
@@ -231,6 +240,44 @@ pub fn set_address(packet: &mut [u8], side: Side, address: &[u8]) -> Verdict {
     let (to, len) = (packet.as_mut_ptr(), packet.len());
     Verdict::answered(unsafe {
         c::hifrostum_set_address(to, len, side as u32, address.as_ptr(), address.len())
+    })
+}
+
+/// Exchanges the first six bytes of an IPv6 address for a new prefix, and sets the word behind them so that
+/// the address keeps its class modulo 65535: RFC 6296 for prefixes of 48 bits. No sum field is written and
+/// none needs to be, the verdict stays what it was, and exchanging back restores the packet.
+///
+/// `Place` unless both prefixes have six bytes and the address begins with the expected one, or if the word
+/// behind it is FFFF, which would come back as 0000. So compare the six bytes first: a packet with another
+/// prefix goes on as it is, and one that has the expected prefix and is refused must be dropped. IPv4 is
+/// `Version`, and a fragment is refused as by [`set_address`].
+///
+/// ```
+/// use hifrostum::{exchange_prefix, judge, Side, Verdict};
+/// let (inside, outside) = ([0xFD, 1, 2, 3, 4, 5], [0x20, 1, 0x0D, 0xB8, 0, 1]);
+/// let mut packet = [
+///     0x60, 0, 0, 0, 0, 8, 58, 64, // to ::1, from fd01:203:405:1::1234
+///     0xFD, 1, 2, 3, 4, 5, 0, 1, 0, 0, 0, 0, 0, 0, 0x12, 0x34, //
+///     0, 0, 0, 0, 0, 0, 0, 0, 0, 0, 0, 0, 0, 0, 0, 1, //
+///     0x80, 0, 0x6A, 0x7B, 0, 1, 0, 1,
+/// ];
+/// assert_eq!(judge(&packet), Verdict::Good);
+/// let verdict = exchange_prefix(&mut packet, Side::Source, &inside, &outside);
+/// assert_eq!(verdict, Verdict::Good);
+/// assert_eq!(packet[8..16], [0x20, 1, 0x0D, 0xB8, 0, 1, 0xD5, 0x50]);
+/// assert_eq!(judge(&packet), Verdict::Good);
+/// ```
+pub fn exchange_prefix(packet: &mut [u8], side: Side, expected: &[u8], new: &[u8]) -> Verdict {
+    Verdict::answered(unsafe {
+        c::hifrostum_exchange_prefix(
+            packet.as_mut_ptr(),
+            packet.len(),
+            side as u32,
+            expected.as_ptr(),
+            expected.len(),
+            new.as_ptr(),
+            new.len(),
+        )
     })
 }
 

@@ -326,6 +326,100 @@ fn refused_headers_between() {
     }
 }
 
+/// RFC 6296's prefixes, inside and outside, and its address on both sides.
+const INSIDE: [u8; 6] = [0xFD, 1, 2, 3, 4, 5];
+const OUTSIDE: [u8; 6] = [0x20, 1, 0x0D, 0xB8, 0, 1];
+const ADDRESS: [u8; 16] = [0xFD, 1, 2, 3, 4, 5, 0, 1, 0, 0, 0, 0, 0, 0, 0x12, 0x34];
+
+/// A good packet behind these headers, with the RFC's address as its source and as its destination.
+fn inside(headers: &[(u8, &[u8])]) -> Vec<u8> {
+    let mut packet = behind(headers);
+    for side in [Side::Source, Side::Destination] {
+        assert_eq!(set_address(&mut packet, side, &ADDRESS), Verdict::Good);
+    }
+    assert_eq!(judge(&packet), Verdict::Good);
+    packet
+}
+
+/// The RFC's example on each side, behind headers too, good and damaged: eight bytes change, the verdict stays, and
+/// exchanging back restores the packet.
+#[test]
+fn prefixes() {
+    let (hop, word) = ((0, &PADDING[..]), [0xD5, 0x50]);
+    for (headers, damage) in [(&[][..], 0), (&[][..], 4), (&[hop][..], 0), (&[hop][..], 4)] {
+        let mut packet = inside(headers);
+        *packet.last_mut().unwrap() ^= damage;
+        let (was, verdict) = (packet.clone(), judge(&packet));
+        assert_eq!(verdict == Verdict::Good, damage == 0);
+        for (side, at) in [(Side::Source, 8), (Side::Destination, 24)] {
+            let mut want = was.clone();
+            want[at..at + 8].copy_from_slice(&[&OUTSIDE[..], &word].concat());
+            let out = exchange_prefix(&mut packet, side, &INSIDE, &OUTSIDE);
+            assert_eq!((out, &packet), (Verdict::Good, &want));
+            assert_eq!(judge(&packet), verdict);
+            let back = exchange_prefix(&mut packet, side, &OUTSIDE, &INSIDE);
+            assert_eq!((back, &packet), (Verdict::Good, &was));
+            let same = exchange_prefix(&mut packet, side, &INSIDE, &INSIDE);
+            assert_eq!((same, &packet), (Verdict::Good, &was));
+        }
+    }
+    // the word that becomes 0000, and not FFFF
+    let mut packet = inside(&[]);
+    packet[14..16].copy_from_slice(&[0x2A, 0xB0]);
+    let verdict = exchange_prefix(&mut packet, Side::Source, &INSIDE, &OUTSIDE);
+    assert_eq!((verdict, &packet[14..16]), (Verdict::Good, &[0, 0][..]));
+    let verdict = exchange_prefix(&mut packet, Side::Source, &OUTSIDE, &INSIDE);
+    assert_eq!(
+        (verdict, &packet[14..16]),
+        (Verdict::Good, &[0x2A, 0xB0][..])
+    );
+}
+
+/// What refuses an exchange, in its order: the version, IPv4's too, comes before the length, and the prefixes last.
+#[test]
+fn refused_prefixes() {
+    let fragment = (44, &[0, 0, 1, 0, 0, 0, 7][..]);
+    let short = [&INSIDE[..5], &INSIDE[..0]];
+    let long = [ADDRESS[..7].to_vec(), ADDRESS.to_vec()];
+    let refused = |packet: &[u8], expected: &[u8], new: &[u8]| {
+        let mut tried = packet.to_vec();
+        let verdict = exchange_prefix(&mut tried, Side::Destination, expected, new);
+        assert_eq!(tried, packet);
+        verdict
+    };
+    let good = inside(&[]);
+    for wrong in short.into_iter().chain(long.iter().map(|long| &long[..])) {
+        assert_eq!(refused(&good, wrong, &OUTSIDE), Verdict::Place);
+        assert_eq!(refused(&good, &INSIDE, wrong), Verdict::Place);
+    }
+    for bit in 0..48 {
+        let mut other = INSIDE;
+        other[bit / 8] ^= 0x80 >> (bit % 8);
+        assert_eq!(refused(&good, &other, &OUTSIDE), Verdict::Place);
+    }
+    let spoiled = |at: usize, bytes: &[u8]| {
+        let mut packet = good.clone();
+        packet[at..at + bytes.len()].copy_from_slice(bytes);
+        refused(&packet, &INSIDE, &OUTSIDE[..5])
+    };
+    assert_eq!(spoiled(0, &[0x45]), Verdict::Version);
+    assert_eq!(spoiled(5, &[12]), Verdict::Cut);
+    assert_eq!(spoiled(6, &[59]), Verdict::Uncovered);
+    assert_eq!(spoiled(6, &[44]), Verdict::Fragment);
+    assert_eq!(spoiled(45, &[12]), Verdict::Shape);
+    assert_eq!(spoiled(46, &[0, 0]), Verdict::Missing);
+    assert_eq!(spoiled(46, &[0, 1]), Verdict::Place);
+    let mut full = good.clone();
+    full[30..32].fill(0xFF);
+    assert_eq!(refused(&full, &INSIDE, &OUTSIDE), Verdict::Place);
+    let first = behind(&[fragment]);
+    assert_eq!(refused(&first, &[0; 6], &OUTSIDE), Verdict::Fragment);
+    assert_eq!(refused(&UDP, &INSIDE, &OUTSIDE), Verdict::Version);
+    assert_eq!(refused(&UDP[..1], &INSIDE, &OUTSIDE), Verdict::Version);
+    assert_eq!(refused(&good[..39], &INSIDE, &OUTSIDE), Verdict::Cut);
+    assert_eq!(refused(&[], &INSIDE, &OUTSIDE), Verdict::Cut);
+}
+
 /// A field at FFFF where the fresh one is 0000: an edit leaves what the mender writes.
 #[test]
 fn no_negative_zero() {
