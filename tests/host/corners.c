@@ -1,7 +1,7 @@
 /* Packets that meet the rare branches by design: totals that are multiples of 65535, fields at 0000, FFFF and beside
  * them, changes of 0, 1 and 65534; messages of every length at every address modulo 32; lifetimes in packets that no
- * other edit takes; UDP datagrams that end before their message does; and headers between, such as a walk gets past and
- * such as it doesn't.
+ * other edit takes; prefixes whose words are corners, and every word behind one; UDP datagrams that end before their
+ * message does; and headers between, such as a walk gets past and such as it doesn't.
  *
  * What is wanted is the answer of model.h. After each call the verdict and every byte are compared, and in the end each
  * rare branch of the model must have been taken.
@@ -24,8 +24,10 @@ static unsigned long checks, failed, group_checks;
 enum { GUARD = 64 };
 static uint8_t room[GUARD + 64 + ROOM + GUARD] __attribute__((aligned(64)));
 
-enum call { JUDGE, MEND, LOWER, ADDRESS, STRETCH };
-static const char *const names[] = {"judge", "mend", "lower lifetime", "set address", "set stretch"};
+/* For an exchange of prefixes the new bytes are the expected prefix and then the new one. */
+enum call { JUDGE, MEND, LOWER, ADDRESS, STRETCH, PREFIX };
+static const char *const names[] = {"judge",       "mend",        "lower lifetime",
+                                    "set address", "set stretch", "exchange prefix"};
 
 static void hold(enum call call, const struct packet *p, size_t address, size_t number, const uint8_t *new, size_t len)
 {
@@ -41,13 +43,16 @@ static void hold(enum call call, const struct packet *p, size_t address, size_t 
                       : call == MEND    ? mend(&want)
                       : call == LOWER   ? lower(&want)
                       : call == ADDRESS ? set_address(&want, (unsigned)number, new)
-                                        : set_stretch(&want, number, new, len);
+                      : call == STRETCH ? set_stretch(&want, number, new, len)
+                                        : exchange_prefix(&want, number, new, 6, new + 6, len - 6);
     comparing = 0;
     unsigned got = call == JUDGE     ? hifrostum_judge(at, p->len)
                    : call == MEND    ? hifrostum_mend(at, p->len)
                    : call == LOWER   ? hifrostum_lower_lifetime(at, p->len)
                    : call == ADDRESS ? hifrostum_set_address(at, p->len, (uint32_t)number, new, len)
-                                     : hifrostum_set_stretch(at, p->len, number, new, len);
+                   : call == STRETCH ? hifrostum_set_stretch(at, p->len, number, new, len)
+                                     : hifrostum_exchange_prefix(at, p->len, (uint32_t)number, new, 6, new + 6,
+                                                                 len - 6);
     for (size_t i = 0; i < GUARD; i++)
         kept &= at[-1 - (ptrdiff_t)i] == 0xA5 && at[p->len + i] == 0xA5;
     checks++;
@@ -60,6 +65,13 @@ static void hold(enum call call, const struct packet *p, size_t address, size_t 
                word(p->bytes + 10), word(p->bytes + p->header + p->kind->field), wanted, word(want.bytes + 10),
                word(field_of(&want)), got, word(at + 10), word(at + p->header + p->kind->field),
                kept ? "" : "; a guard byte changed");
+}
+
+static void expect(int holds, const char *what)
+{
+    checks++;
+    if (!holds && failed++ < 20)
+        printf("corners: failed: %s\n", what);
 }
 
 static void group(const char *name)
@@ -353,6 +365,15 @@ static void blanks(void)
     group("blank and nearly blank ICMP");
 }
 
+/* Exchanges the prefix that an address of a packet has for a new one. */
+static void exchange(const struct packet *from, size_t address, size_t side, const uint8_t *new)
+{
+    uint8_t both[12];
+    memcpy(both, from->bytes + 8 + 16 * (side % 2), 6);
+    memcpy(both + 6, new, 6);
+    hold(PREFIX, from, address, side, both, 12);
+}
+
 /* The lifetime under every header field that there is, and every lifetime. */
 static void lifetimes(void)
 {
@@ -404,6 +425,7 @@ static void lifetimes_before_anything(void)
                 hold(MEND, &p, 3, 0, NULL, 0);
                 hold(ADDRESS, &p, 3, lifetime % 2, new, four ? 4 : 16);
                 hold(STRETCH, &p, 3, 0, new, 1);
+                exchange(&p, 3, lifetime % 3, new);
                 lower(&p);
                 hold(JUDGE, &p, 3, 0, NULL, 0);
             }
@@ -457,6 +479,102 @@ static void addresses(void)
                     hold(ADDRESS, &p, c, side, new, size);
                 }
     group("addresses");
+}
+
+/* Whether mending leaves a packet as it is. */
+static int fresh(const struct packet *from)
+{
+    static struct packet mended;
+    copy(&mended, from);
+    mend(&mended);
+    return memcmp(mended.bytes, from->bytes, from->len) == 0;
+}
+
+/* Exchanges a prefix of p, and back: the verdict stays, a fresh field stays fresh and no other becomes so, and in the
+ * end each byte is as it was. */
+static void there_and_back(size_t address, size_t side, const uint8_t *new)
+{
+    uint8_t old[6];
+    memcpy(old, p.bytes + 8 + 16 * side, 6);
+    exchange(&p, address, side, new);
+    copy(&q, &p);
+    unsigned verdict = judge(&q);
+    if (exchange_prefix(&q, side, old, 6, new, 6))
+        return;
+    expect(judge(&q) == verdict, "the verdict before an exchange and after it");
+    expect(fresh(&q) == fresh(&p), "a fresh field before an exchange and after it");
+    hold(JUDGE, &q, address, 0, NULL, 0);
+    exchange(&q, address, side, old);
+    exchange_prefix(&q, side, new, 6, old, 6);
+    expect(memcmp(q.bytes, p.bytes, p.len) == 0, "an exchange and back");
+}
+
+/* Prefixes whose words change by corners, before corner words and under corner fields. With one word changed and the
+ * others kept, or with all words alike; some addresses are zeros behind the word. */
+static void prefixes(void)
+{
+    uint8_t common[6], new[6], other[12] = {0};
+    for (size_t i = 0; i < KINDS * CHANGES * CORNERS * CORNERS; i++) {
+        size_t c = i / KINDS % CHANGES, before = i / KINDS / CHANGES % CORNERS, message = i / KINDS / CHANGES / CORNERS;
+        size_t side = (before + message) % 2;
+        build(&p, &kinds[i % KINDS], 0, kinds[i % KINDS].fixed + 3);
+        uint8_t *at = p.bytes + 8 + 16 * side;
+        for (size_t j = 0; j < 6; j++)
+            common[j] = (uint8_t)any(256);
+        const uint8_t *shared = message % 3 ? common : NULL;
+        if (p.kind->family == 6) {
+            fill(at, 6, changes[c].old, shared);
+            put(at + 6, corners[before]);
+            memset(at + 8, 0, message % 3 == 0 ? 8 : 0);
+            put(field_of(&p), corners[message]);
+        }
+        fill(new, 6, changes[c].new, shared);
+        there_and_back(c, side, new);
+        /* one bit off */
+        memcpy(other, at, 6);
+        other[i / KINDS % 6] ^= (uint8_t)(1 << any(8));
+        hold(PREFIX, &p, c, side, other, 12);
+        /* on a good packet, whose field must stay fresh */
+        freshen(&p);
+        there_and_back(c, side, new);
+    }
+    group("prefixes");
+}
+
+/* Every word behind the prefix of an address of p: each of 0000 to FFFE is written for one of them, and the last, FFFF,
+ * is refused. The pair is the prefix and the new one. */
+static void each_word(size_t side, const uint8_t *pair)
+{
+    uint8_t *at = p.bytes + 8 + 16 * side, written[65536] = {0};
+    unsigned refusal = 0, once = 0;
+    memcpy(at, pair, 6);
+    for (unsigned before = 0; before < 65536; before++) {
+        put(at + 6, before);
+        hold(PREFIX, &p, 1, side, pair, 12);
+        copy(&q, &p);
+        refusal = exchange_prefix(&q, side, pair, 6, pair + 6, 6);
+        if (refusal == 0)
+            once += !written[word(q.bytes + (at - p.bytes) + 6)]++;
+    }
+    expect(refusal == 10, "FFFF is refused");
+    expect(once == 65535 && !written[65535], "each of 0000 to FFFE is written");
+}
+
+static void words(void)
+{
+    static const uint8_t pairs[][12] = {
+        {0xFD, 1, 2, 3, 4, 5, 0x20, 1, 0x0D, 0xB8, 0, 1},
+        {0x20, 1, 0x0D, 0xB8, 0, 1, 0xFD, 1, 2, 3, 4, 5},
+        {0},
+        {0, 0, 0, 0, 0, 0, 255, 255, 255, 255, 255, 255},
+        {255, 255, 255, 255, 255, 255, 255, 255, 255, 255, 255, 254},
+    };
+    for (size_t i = 0; i < sizeof pairs / sizeof *pairs; i++) {
+        const struct kind *kind = &kinds[KINDS - 1 - i]; /* IPv6's are the last eight */
+        build(&p, kind, 0, kind->fixed + 3);
+        each_word(i % 2, pairs[i]);
+    }
+    group("words behind a prefix");
 }
 
 /* Stretches at even and odd places whose bytes change by corners, under corner fields: two bytes, one, and more with
@@ -535,6 +653,7 @@ static void edits(size_t address)
         new[i] = (uint8_t)any(256);
     hold(LOWER, &p, address, 0, NULL, 0);
     hold(ADDRESS, &p, address, any(2), new, p.kind->family == 4 ? 4 : 16);
+    exchange(&p, address, any(3), new);
     for (size_t len = 0; len <= 4; len++)
         for (size_t end = body > len ? body : len; end <= body + 2; end++)
             hold(STRETCH, &p, address, end - len, new, len);
@@ -576,6 +695,10 @@ static void every_call(size_t address)
     hold(LOWER, &p, address, 0, NULL, 0);
     hold(ADDRESS, &p, address, 0, new, 16);
     hold(ADDRESS, &p, address, 1, new, 16);
+    hold(PREFIX, &p, address, 0, new, 12);
+    exchange(&p, address, 0, new);
+    exchange(&p, address, 1, new);
+    exchange(&p, address, 2, new);
     hold(STRETCH, &p, address, body - some, new, some);
     hold(STRETCH, &p, address, body - some, new, some + 1);
     hold(STRETCH, &p, address, any((unsigned)body + 1), new, any(2));
@@ -678,6 +801,9 @@ static unsigned long branches(void)
                            : b == HEADER_ZERO || b == HEADER_FULL                ? four
                            : b == UPDATED_HEADER || b == FULL_HEADER             ? four
                            : b == LOWERED_SILENT                                 ? udp && !four
+                           : b == PREFIX_FOUR                                    ? four
+                           : b == PREFIX_FIELD                                   ? !udp && !four
+                           : b > PREFIX_FOUR && b < PREFIX_FIELD                 ? !four
                            : b >= WALK_EIGHT                                     ? kinds[k].between != 0
                            : b >= TAIL_LENGTH                                    ? kinds[k].tail != 0
                                                                                  : 1;
@@ -700,6 +826,8 @@ int main(void)
     lifetimes();
     lifetimes_before_anything();
     addresses();
+    prefixes();
+    words();
     stretches();
     to_multiples();
     datagrams();

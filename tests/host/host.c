@@ -99,11 +99,12 @@ static void unchanged(const struct room *room, const void *bytes)
 
 /* Calls */
 
-enum operation { JUDGE, MEND, LIFETIME, ADDRESS, STRETCH };
+enum operation { JUDGE, MEND, LIFETIME, ADDRESS, STRETCH, PREFIX };
 
-/* Calls an operation on a packet, with a side or place and new bytes. Changes the packet as it did. */
-static unsigned call(enum operation op, uint8_t *packet, size_t len, size_t number,
-                     const uint8_t *bytes, size_t bytes_len)
+/* Calls an operation on a packet, with a side or place and new bytes, or with two prefixes. Changes the packet as it
+ * did. */
+static unsigned call_with(enum operation op, uint8_t *packet, size_t len, size_t number,
+                          const uint8_t *bytes, size_t bytes_len, const uint8_t *more, size_t more_len)
 {
     static uint8_t was[SPACE];
     unsigned answer = 0;
@@ -111,14 +112,21 @@ static unsigned call(enum operation op, uint8_t *packet, size_t len, size_t numb
         memcpy(was, packet, len);
     for (int lay = 0; lay < LAYS; lay++) {
         uint8_t *p = lend(&first, lay, was, len, 1), *b = lend(&second, lay, bytes, bytes_len, 1);
+        uint8_t *m = lend(&third, lay, more, more_len, 1);
         unsigned verdict = op == JUDGE      ? hifrostum_judge(p, len)
                            : op == MEND     ? hifrostum_mend(p, len)
                            : op == LIFETIME ? hifrostum_lower_lifetime(p, len)
                            : op == ADDRESS  ? hifrostum_set_address(p, len, (uint32_t)number, b, bytes_len)
-                                            : hifrostum_set_stretch(p, len, number, b, bytes_len);
+                           : op == STRETCH  ? hifrostum_set_stretch(p, len, number, b, bytes_len)
+                                            : hifrostum_exchange_prefix(p, len, (uint32_t)number, b, bytes_len,
+                                                                        m, more_len);
         guards(&first);
         guards(&second);
         unchanged(&second, bytes);
+        if (op == PREFIX) {
+            guards(&third);
+            unchanged(&third, more);
+        }
         if (verdict != 0 || op == JUDGE)
             unchanged(&first, was);
         if (lay == 0) {
@@ -131,6 +139,12 @@ static unsigned call(enum operation op, uint8_t *packet, size_t len, size_t numb
         }
     }
     return answer;
+}
+
+static unsigned call(enum operation op, uint8_t *packet, size_t len, size_t number,
+                     const uint8_t *bytes, size_t bytes_len)
+{
+    return call_with(op, packet, len, number, bytes, bytes_len, NULL, 0);
 }
 
 static unsigned judge(uint8_t *packet, size_t len)
@@ -146,6 +160,12 @@ static unsigned mend(uint8_t *packet, size_t len)
 static unsigned lower(uint8_t *packet, size_t len)
 {
     return call(LIFETIME, packet, len, 0, NULL, 0);
+}
+
+static unsigned exchange(uint8_t *packet, size_t len, size_t side, const uint8_t *expected, size_t expected_len,
+                         const uint8_t *new, size_t new_len)
+{
+    return call_with(PREFIX, packet, len, side, expected, expected_len, new, new_len);
 }
 
 static unsigned field(const uint8_t *bytes, size_t len)
@@ -355,6 +375,31 @@ static uint8_t p[SPACE], q[SPACE];
 static void take_udp(void)
 {
     memcpy(p, udp, sizeof udp);
+}
+
+/* RFC 6296's prefixes. */
+static const uint8_t inside[6] = {0xFD, 1, 2, 3, 4, 5}, outside[6] = {0x20, 1, 0x0D, 0xB8, 0, 1};
+
+/* Exchanges a prefix of p, where nothing is refused, and back. The new prefix stands, the word behind it keeps the
+ * address's class modulo 65535 and isn't FFFF, and no other byte changes. The verdict and the message's sum stay, and
+ * in the end each byte is as it was. */
+static void exchanged(size_t len, size_t side, const uint8_t *new)
+{
+    static uint8_t was[SPACE], want[SPACE];
+    size_t at = 8 + 16 * side;
+    unsigned verdict = judge(p, len);
+    memcpy(was, p, len);
+    memcpy(want, p, len);
+    memcpy(want + at, new, 6);
+    expect(exchange(p, len, side, was + at, 6, new, 6), 0, "exchange a prefix");
+    expect(weigh(p + at, 16) % 65535, weigh(was + at, 16) % 65535, "the class of the address");
+    check(word(p + at + 6) != 0xFFFF, "the word isn't FFFF");
+    put(want + at + 6, word(p + at + 6));
+    check(memcmp(p, want, len) == 0, "the prefix, the word and no other byte");
+    expect(judge(p, len), verdict, "the verdict stays");
+    expect(message_sum(p), message_sum(was), "the message's sum stays");
+    expect(exchange(p, len, side, new, 6, was + at, 6), 0, "exchange it back");
+    check(memcmp(p, was, len) == 0, "what was there");
 }
 
 static const uint8_t words[8] = {0, 1, 0xF2, 3, 0xF4, 0xF5, 0xF6, 0xF7};
@@ -696,7 +741,8 @@ static void fresh_header(uint8_t *packet)
 }
 
 /* Lowers p, which has this verdict, from several lifetimes. The lifetime changes, the IPv4 header field stays fresh,
- * the verdict and each other byte stay. The other edits refuse with the verdict, and the mender unless it is 8. */
+ * the verdict and each other byte stay. The other edits refuse with the verdict (an exchange of prefixes in IPv4 with
+ * 3), and the mender unless it is 8. */
 static void passed_over(size_t len, unsigned verdict)
 {
     static const uint8_t lifetimes[] = {255, 3, 2, 1, 0};
@@ -713,6 +759,8 @@ static void passed_over(size_t len, unsigned verdict)
         expect(judge(p, len), verdict, "its verdict");
         expect(call(ADDRESS, p, len, 1, udp, four ? 4 : 16), verdict, "a new destination");
         expect(call(STRETCH, p, len, 0, udp, 1), verdict, "a stretch");
+        expect(exchange(p, len, i % 2, q + 8 + i % 2 * 16, 6, outside, 6), four ? 3 : verdict, "a prefix");
+        expect(exchange(p, len, 2, NULL, 0, outside, i), four ? 3 : verdict, "a prefix, all wrong");
         if (verdict != 8)
             expect(mend(p, len), verdict, "mend it");
         expect(lower(p, len), lifetimes[i] > 2 ? 0 : 11, "lower it again");
@@ -1142,6 +1190,8 @@ static void each_call(size_t len)
         memcpy(q + (four ? 12 : 8) + side * size, new_bytes + side, size);
         freshen(q);
         check(memcmp(p, q, len) == 0, "what a new address gives");
+        if (!four)
+            exchanged(len, side, outside);
     }
     expect(call(STRETCH, p, len, place, new_bytes, body - place), 0, "a stretch to the datagram's end");
     memcpy(q + start + 8 + place, new_bytes, body - place);
@@ -1177,6 +1227,7 @@ static void without_sum(size_t len)
     expect(call(STRETCH, p, len, body, new_bytes, 1), four ? 10 : 8, "a stretch in the tail");
     expect(call(STRETCH, p, len, 0, new_bytes, body), four ? 0 : 8, "a whole new body");
     expect(call(ADDRESS, p, len, 1, new_bytes, four ? 4 : 16), four ? 0 : 8, "a new destination");
+    expect(exchange(p, len, 1, q + 24, 6, outside, 6), four ? 3 : 8, "a new prefix");
     if (four) {
         memcpy(q + 16, new_bytes, 4);
         memcpy(q + start + 8, new_bytes, body);
@@ -1237,6 +1288,8 @@ static void said_lengths(void)
         expect(mend(p, len), 4, "mend what is short");
         expect(call(ADDRESS, p, len, 0, new_bytes, four ? 4 : 16), 4, "a new source of what is short");
         expect(call(STRETCH, p, len, 0, NULL, 0), 4, "nothing in what is short");
+        memcpy(q, p + 8, 6);
+        expect(exchange(p, len, 0, q, 6, outside, 6), four ? 3 : 4, "a prefix of what is short");
     }
 }
 
@@ -1308,6 +1361,8 @@ static void untouched(void)
         expect(hifrostum_set_address(at, len, 0, new_bytes, size), 0, "a new source before it");
         expect(hifrostum_set_stretch(at, len, body - some, new_bytes, some), 0, "a stretch before it");
         expect(hifrostum_set_stretch(at, len, body, new_bytes, 1), 10, "a stretch in it");
+        expect(hifrostum_exchange_prefix(at, len, 1, p + 24, 6, outside, 6), four ? 3 : 0, "a prefix before it");
+        expect(hifrostum_exchange_prefix(at, len, 1, outside, 6, p + 24, 6), four ? 3 : 0, "and back");
         p[four ? 8 : 7]--;
         memcpy(p + (four ? 12 : 8), new_bytes, size);
         memcpy(p + own - some, new_bytes, some);
@@ -1460,6 +1515,7 @@ static void each_behind(size_t len)
         memcpy(q + 8 + side * 16, new_bytes + side, 16);
         freshen(q);
         check(memcmp(p, q, len) == 0, "what a new address gives");
+        exchanged(len, side, outside);
     }
     expect(call(ADDRESS, p, len, 2, new_bytes, 16), 10, "side 2");
     expect(call(STRETCH, p, len, place, new_bytes, some), 0, "a stretch");
@@ -1565,6 +1621,8 @@ static void before_wall(size_t len, unsigned verdict)
         expect(hifrostum_mend(at, lent), verdict, "mend before a wall");
         expect(hifrostum_set_address(at, lent, 0, new_bytes, 16), verdict, "a new source before a wall");
         expect(hifrostum_set_address(at, lent, 2, new_bytes, 0), verdict, "side 2 before a wall");
+        expect(hifrostum_exchange_prefix(at, lent, 0, p + 8, 6, outside, 6), verdict, "a prefix before a wall");
+        expect(hifrostum_exchange_prefix(at, lent, 2, NULL, 0, NULL, 0), verdict, "no prefixes before a wall");
         expect(hifrostum_set_stretch(at, lent, 0, new_bytes, 1), verdict, "a stretch before a wall");
         expect(hifrostum_set_stretch(at, lent, SIZE_MAX, NULL, 0), verdict, "no stretch before a wall");
         expect(hifrostum_lower_lifetime(at, lent), 11, "a lifetime of 1 before a wall");
@@ -1608,6 +1666,8 @@ static void untouched_behind(void)
         expect(hifrostum_mend(at, lent), 0, "mend there");
         check(memcmp(at, p, len) == 0, "what mending gives");
         expect(hifrostum_lower_lifetime(at, lent), 0, "lower there");
+        expect(hifrostum_exchange_prefix(at, lent, 0, p + 8, 6, outside, 6), 0, "a prefix there");
+        expect(hifrostum_exchange_prefix(at, lent, 0, outside, 6, p + 8, 6), 0, "and back");
         expect(hifrostum_set_address(at, lent, 1, new_bytes, 16), 0, "a new destination there");
         expect(hifrostum_set_stretch(at, lent, len - body - 33, new_bytes, 33), 0, "a stretch there");
         p[7]--;
@@ -1641,6 +1701,7 @@ static void misread_between(void)
         expect(judge(p, len), 9, "judge a sum that is right if headers between are misread");
         expect(lower(p, len), 0, "lower it");
         expect(call(ADDRESS, p, len, 0, new_bytes, 16), 0, "a new source");
+        exchanged(len, 0, inside);
         expect(call(STRETCH, p, len, 0, new_bytes, 1), 0, "a stretch");
         expect(judge(p, len), 9, "it stays wrong");
         memcpy(q, p, len);
@@ -1648,6 +1709,28 @@ static void misread_between(void)
         expect(mend(p, len), 0, "mend it");
         check(memcmp(p, q, len) == 0, "what mending gives");
     }
+}
+
+/* One edit of p, whose body has so many bytes. The numbers say with what. A walk's refusal comes first, if there is
+ * one, and then what doesn't fit. */
+static void edit_in_turn(size_t turn, unsigned numbers, size_t len, size_t body, unsigned refusal)
+{
+    size_t number = numbers >> 24, size = numbers >> 16 & 31, side = number % 3, place = number % 60;
+    const uint8_t *address = p + 8 + 16 * (side % 2);
+    uint8_t expected[6];
+    memcpy(expected, address, 6);
+    expected[size % 6] ^= number % 4 == 0;
+    int exchangeable = side < 2 && number % 4 != 0 && word(address + 6) != 0xFFFF;
+    int fits = turn % 4 == 1 ? side < 2 : turn % 4 == 2 ? place + size <= body : exchangeable;
+    unsigned want = refusal ? refusal : fits ? 0 : 10;
+    if (turn % 4 == 0)
+        expect(lower(p, len), 0, "lower in turn");
+    else if (turn % 4 == 1)
+        expect(call(ADDRESS, p, len, side, new_bytes + size, 16), want, "an address in turn");
+    else if (turn % 4 == 2)
+        expect(call(STRETCH, p, len, place, new_bytes + number % 90, size), want, "a stretch in turn");
+    else
+        expect(exchange(p, len, side, expected, 6, new_bytes + size, 6), want, "a prefix in turn");
 }
 
 /* Edits in turn, refused ones among them, on good and on damaged messages behind headers, and on what a walk doesn't
@@ -1664,16 +1747,9 @@ static void edits_behind(void)
         unsigned verdict = stops ? stopped[walk].verdict : damaged ? 9 : 0;
         p[start + 1] ^= damaged ? 0x20 : 0;
         memcpy(headers, p + 40, start - 40);
-        for (size_t turn = 0; turn < 24; turn++) {
+        for (size_t turn = 0; turn < 32; turn++) {
             state = state * 1664525 + 1013904223;
-            size_t number = state >> 24, size = state >> 16 & 31, side = number % 3, place = number % 60;
-            unsigned fits = stops ? verdict : turn % 3 == 1 ? (side < 2 ? 0 : 10) : place + size <= body ? 0 : 10;
-            if (turn % 3 == 0)
-                expect(lower(p, len), 0, "lower in turn");
-            else if (turn % 3 == 1)
-                expect(call(ADDRESS, p, len, side, new_bytes + size, 16), fits, "an address in turn");
-            else
-                expect(call(STRETCH, p, len, place, new_bytes + number % 90, size), fits, "a stretch in turn");
+            edit_in_turn(turn, state, len, body, stops ? verdict : 0);
             expect(judge(p, len), verdict, "the verdict stays");
             check(memcmp(p + 40, headers, start - 40) == 0, "the headers stay");
         }
@@ -1707,6 +1783,172 @@ static void captures_behind(void)
     for (size_t i = 0; i < count; i++)
         expect(got[i], want[i], "a record with headers between");
     capture(packets, end, got, count - 1, 16, 0);
+}
+
+/* An old prefix and the word behind it, a new prefix and what the word comes to. The first is RFC 6296's example. */
+static const struct {
+    uint8_t old[6];
+    unsigned word;
+    uint8_t new[6];
+    unsigned wanted;
+} prefixes[] = {
+    {{0xFD, 1, 2, 3, 4, 5}, 0x0001, {0x20, 1, 0x0D, 0xB8, 0, 1}, 0xD550},
+    {{0xFD, 1, 2, 3, 4, 5}, 0x2AB0, {0x20, 1, 0x0D, 0xB8, 0, 1}, 0x0000},
+    {{0xFD, 1, 2, 3, 4, 5}, 0x2AAF, {0x20, 1, 0x0D, 0xB8, 0, 1}, 0xFFFE},
+    {{0xFD, 1, 2, 3, 4, 5}, 0xFFFE, {0x20, 1, 0x0D, 0xB8, 0, 1}, 0xD54E},
+    {{0xFD, 1, 2, 3, 4, 5}, 0x0000, {0xFD, 1, 2, 3, 4, 5}, 0x0000},
+    {{0xFD, 1, 2, 3, 4, 5}, 0xFFFE, {0xFD, 1, 2, 3, 4, 5}, 0xFFFE},
+    {{0xFD, 1, 2, 3, 4, 5}, 0x1234, {4, 5, 0xFD, 1, 2, 3}, 0x1234},
+    {{0xFD, 1, 2, 3, 4, 5}, 0x1234, {0xFD, 1, 2, 3, 5, 4}, 0x1135},
+    {{0}, 0x0000, {0, 0, 0, 0, 0, 1}, 0xFFFE},
+    {{0}, 0x0001, {0, 0, 0, 0, 0, 1}, 0x0000},
+    {{0}, 0x0000, {255, 255, 255, 255, 255, 255}, 0x0000},
+    {{0}, 0x0001, {255, 255, 255, 255, 255, 255}, 0x0001},
+    {{0}, 0xFFFE, {255, 255, 255, 255, 255, 255}, 0xFFFE},
+    {{0}, 0x0000, {255, 255, 255, 255, 255, 254}, 0x0001},
+    {{0}, 0x0000, {0x80, 0, 0x80, 0, 0x80, 0}, 0x7FFE},
+    {{0x80, 0, 0, 0, 0, 0}, 0x7FFF, {0}, 0x0000},
+};
+enum { PREFIXES = sizeof prefixes / sizeof *prefixes };
+
+/* Each of these, and back, on both sides, in TCP, UDP and ICMPv6, good and damaged. Behind the word are zeros, so some
+ * addresses are zeros alone. */
+static void exchanges(void)
+{
+    for (size_t i = 0; i < PREFIXES * 2 * 3 * 2; i++) {
+        size_t which = i / 12, side = i / 6 % 2, at = 8 + 16 * side;
+        size_t len = packet_of(p, 6, each[3 + i / 2 % 3].protocol, 33);
+        int damaged = i % 2;
+        memset(p + at, 0, 16);
+        memcpy(p + at, prefixes[which].old, 6);
+        put(p + at + 6, prefixes[which].word);
+        freshen(p);
+        p[len - 1] ^= damaged ? 0x10 : 0;
+        expect(judge(p, len), damaged ? 9 : 0, "judge it");
+        exchanged(len, side, prefixes[which].new);
+        expect(exchange(p, len, side, prefixes[which].old, 6, prefixes[which].new, 6), 0, "exchange it");
+        check(memcmp(p + at, prefixes[which].new, 6) == 0, "the new prefix");
+        expect(word(p + at + 6), prefixes[which].wanted, "the word behind it");
+        exchanged(len, side, prefixes[which].old);
+    }
+}
+
+/* Any field is left as it is, right or wrong, and so is one at FFFF where the fresh one is 0000, which an address edit
+ * would change. */
+static void fields_under_exchanges(void)
+{
+    static const unsigned fields[] = {0, 1, 0x7FFF, 0x8000, 0xFFFE, 0xFFFF};
+    for (size_t i = 0; i < 3 * 2 * 6; i++) {
+        const struct kind *kind = each + 3 + i / 12;
+        size_t side = i / 6 % 2, len = all_ones(kind, 8 + 16 * side, inside, 6);
+        expect(judge(p, len), 0, "judge a field at FFFF");
+        exchanged(len, side, outside);
+        put(p + kind->field, fields[i % 6]);
+        if (kind->protocol == 17 && fields[i % 6] == 0)
+            expect(exchange(p, len, side, inside, 6, outside, 6), 8, "no sum, no exchange");
+        else
+            exchanged(len, side, outside);
+    }
+}
+
+/* What is 10: another side, a prefix of another length or none, another prefix by each of its bits, and the word FFFF,
+ * also where nothing would change. The two prefixes may lie in the same place. */
+static void unfit_prefixes(void)
+{
+    static const size_t sides[] = {2, 3, 255, 256, 65536, 0x7FFFFFFF, 0x80000000, 0xFFFFFFFE, 0xFFFFFFFF};
+    static const size_t lengths[] = {0, 1, 2, 3, 4, 5, 7, 8, 16, 17, 48, 100};
+    uint8_t old[100] = {0}, other[6];
+    size_t len = packet_of(p, 6, 17, 20);
+    freshen(p);
+    memcpy(old, p + 8, 32);
+    for (size_t i = 0; i < sizeof sides / sizeof *sides; i++)
+        expect(exchange(p, len, sides[i], old, 6, outside, 6), 10, "another side");
+    for (size_t i = 0; i < 2 * sizeof lengths / sizeof *lengths; i++) {
+        size_t side = i % 2, n = lengths[i / 2];
+        expect(exchange(p, len, side, old + 16 * side, n, outside, 6), 10, "an expected prefix of another length");
+        expect(exchange(p, len, side, old + 16 * side, 6, old, n), 10, "a new prefix of another length");
+        expect(exchange(p, len, side, old + 16 * side, n, old, n), 10, "both of another length");
+    }
+    for (size_t i = 0; i < 2 * 48; i++) {
+        size_t side = i / 48;
+        memcpy(other, old + 16 * side, 6);
+        other[i % 48 / 8] ^= (uint8_t)(0x80 >> i % 8);
+        expect(exchange(p, len, side, other, 6, outside, 6), 10, "another prefix");
+        expect(exchange(p, len, side, other, 6, old + 16 * side, 6), 10, "another prefix for the one that is there");
+    }
+    for (size_t side = 0; side < 2; side++) {
+        const uint8_t *own = old + 16 * side, *others = old + 16 - 16 * side;
+        expect(exchange(p, len, side, others, 6, outside, 6), 10, "the other side's prefix");
+        expect(hifrostum_exchange_prefix(p, len, (uint32_t)side, own, 6, own, 6), 0, "the same prefix");
+        check(memcmp(p + 8, old, 32) == 0, "changes nothing");
+        put(p + 14 + 16 * side, 0xFFFF);
+        expect(exchange(p, len, side, own, 6, outside, 6), 10, "the word FFFF");
+        expect(exchange(p, len, side, own, 6, own, 6), 10, "the word FFFF, and the same prefix");
+        memcpy(p + 8, old, 32);
+    }
+}
+
+/* Every version but 6 is 3, however short the packet and whatever else is wrong, and so is every packet of IPv4. */
+static void other_versions(void)
+{
+    for (unsigned version = 0; version < 16; version++)
+        for (size_t cut = 0; cut <= 48; cut++) {
+            memcpy(p, icmp6, 48);
+            p[0] = (uint8_t)(version * 16 + cut % 16);
+            unsigned want = cut == 0 ? 2 : version != 6 ? 3 : cut < 48 ? 2 : 0;
+            expect(exchange(p, cut, 0, none, 6, outside, 6), want, "a version");
+            expect(exchange(p, cut, 2, NULL, 0, NULL, 0), want ? want : 10, "a version, and all else wrong");
+        }
+    for (const struct kind *kind = each; kind->family == 4; kind++) {
+        size_t len = packet_of(p, 4, kind->protocol, 40);
+        freshen(p);
+        for (size_t cut = 1; cut <= len; cut++) {
+            memcpy(q, p + 8, 6);
+            expect(exchange(p, cut, 0, q, 6, outside, 6), 3, "IPv4");
+        }
+    }
+}
+
+/* What can be wrong with an exchange, in the order of the refusals, and what each is refused with. */
+enum fault {
+    NO_BYTES, NOT_SIX, UNDER_40, CUT, FRAGMENT, PAST, PROTOCOL, SHORT, UDP_LENGTH, NO_SUM, SIDE, EXPECTED, NEW, OTHER,
+    FULL, FAULTS
+};
+static const unsigned refused_with[FAULTS] = {2, 3, 2, 2, 6, 4, 7, 4, 4, 8, 10, 10, 10, 10, 10};
+
+/* An exchange with a set of faults, in UDP at 48 behind a header of destination options at 40. */
+static unsigned faulty(unsigned faults)
+{
+    size_t len = lead(p, packet_of(p, 6, 17, 12), "60 17"), end = faults >> SHORT & 1 ? len - 5 : len;
+    uint8_t prefix[6];
+    memcpy(prefix, p + 8, 6);
+    prefix[5] ^= faults >> OTHER & 1;
+    put(p + 4, end - 40);
+    p[0] = faults >> NOT_SIX & 1 ? 0x45 : 0x60;
+    p[6] = faults >> FRAGMENT & 1 ? 44 : 60;
+    p[40] = faults >> PROTOCOL & 1 ? 59 : 17;
+    p[41] = faults >> PAST & 1 ? 200 : 0;
+    if (faults >> FULL & 1)
+        put(p + 14, 0xFFFF);
+    if (faults >> UDP_LENGTH & 1)
+        put(p + 52, 7);
+    if (faults >> NO_SUM & 1)
+        put(p + 54, 0);
+    end -= faults >> CUT & 1;
+    end = faults >> NO_BYTES & 1 ? 0 : faults >> UNDER_40 & 1 ? 39 : end;
+    return exchange(p, end, faults >> SIDE & 1 ? 2 : 0, prefix, faults >> EXPECTED & 1 ? 5 : 6, outside,
+                    faults >> NEW & 1 ? 0 : 6);
+}
+
+/* Each of them, each two, and each with all that come later: the first decides. */
+static void faults_in_order(void)
+{
+    expect(faulty(0), 0, "no fault");
+    for (unsigned early = 0; early < FAULTS; early++) {
+        for (unsigned late = early; late < FAULTS; late++)
+            expect(faulty(1u << early | 1u << late), refused_with[early], "one fault, or two");
+        expect(faulty((1u << FAULTS) - (1u << early)), refused_with[early], "a fault and all that come later");
+    }
 }
 
 static void captures(void)
@@ -1793,6 +2035,8 @@ static void largest(void)
         expect(message_sum(p), 0xFFFF, "the largest sums right");
         expect(lower(p, len + tail), 0, "lower the largest");
         expect(call(ADDRESS, p, len + tail, 1, new, kinds[i / 2].family == 4 ? 4 : 16), 0, "a new destination");
+        if (kinds[i / 2].family == 6)
+            exchanged(len + tail, i % 2, outside);
         expect(call(STRETCH, p, len + tail, 1, body, body_len - 1), 0, "a whole new body but one byte");
         expect(call(STRETCH, p, len + tail, 1, body, body_len), 10, "one byte too many");
         check(memcmp(p + end - body_len + 1, body, body_len - 1) == 0, "in place");
@@ -1863,6 +2107,12 @@ int main(void)
     edits_behind();
     captures_behind();
     group("headers between");
+    exchanges();
+    fields_under_exchanges();
+    unfit_prefixes();
+    other_versions();
+    faults_in_order();
+    group("exchange_prefix");
     captures();
     long_capture();
     group("judge_capture");

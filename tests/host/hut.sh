@@ -269,6 +269,133 @@ hut: dropped 1: missing
 hut: dropped 3: message sum
 hut: records 9 relayed 0 dropped 9' "$(cat "$dir/said")"
 
+# Prefixes exchanged, by RFC 6296's example: its station's address inside and outside, and a far one. What goes out is UDP,
+# TCP, an echo, UDP behind hop-by-hop options, and UDP of a subnet that comes to 0000; then one comes in, and one goes from
+# inside to the station's outside address. No field changes.
+inside=FD0102030405 outside=20010DB80001 station=0000000000001234 far='20010DB80009 0000 0000000000000009'
+in6="$inside 0001 $station" out6="$outside D550 $station" report='1388 1389 000B'
+prefixes='--prefix fd01:203:405::/48 2001:db8:1::/48'
+# Writes the capture of these, changed by sed.
+site() { # SED
+    while read -r size packet; do
+        bytes "$size" "$(echo "$packet" | sed "$1")"
+    done <<END
+0033 60000000 000B 11 40 $in6 $far $report 2C54 486921
+003E 60000000 0016 06 40 $in6 $far 1388 1389 00000001 00000002 5010 0400 F94B 0000 4869
+0030 60000000 0008 3A 40 $in6 $far 8000 3CB1 0001 0001
+003B 60000000 0013 00 40 $in6 $far 1100 $pad $report 2C54 486921
+0033 60000000 000B 11 40 $inside 2AB0 $station $far $report 01A5 486921
+0035 60000000 000B 11 40 $far $out6 $report 2C54 486921 AA55
+0033 60000000 000B 11 40 $in6 $out6 $report 44E0 486921
+END
+}
+verdicts='record 1 verdict 0
+record 2 verdict 0
+record 3 verdict 0
+record 4 verdict 0
+record 5 verdict 0
+record 6 verdict 0
+record 7 verdict 0
+records 7 good 7 unsummed 0 refused 0'
+{ bytes "$head" && site ''; } >"$dir/in"
+{ bytes "$head" && site "s/ 40 / 3F /; s/$in6 $out6/OUT IN/; s/$in6/OUT/; s/$out6/IN/; s/$inside 2AB0/$outside 0000/
+    s/OUT/$out6/; s/IN/$in6/"; } >"$dir/want"
+same 'prefixes: judged before' "$verdicts" "$("$x86" run "$judge_capture" <"$dir/in")"
+# shellcheck disable=SC2086
+relay $prefixes
+same 'prefixes: exit status' 0 "$status"
+same 'prefixes: what it says' 'hut: relayed 7: prefix exchanged
+hut: records 7 relayed 7 dropped 0' "$(cat "$dir/said")"
+same 'prefixes: what it writes' "$(od -An -tx1 -v "$dir/want")" "$(od -An -tx1 -v "$dir/out")"
+same 'prefixes: judged' "$verdicts" "$("$x86" run "$judge_capture" <"$dir/out")"
+# the same prefixes in other words; and without the option nothing is exchanged
+relay --prefix FD01:0203:0405:0000:0000:0000:0000:0000/48 2001:DB8:1:0::/48
+same 'prefixes in other words' "$(od -An -tx1 -v "$dir/want")" "$(od -An -tx1 -v "$dir/out")"
+{ bytes "$head" && site 's/ 40 / 3F /'; } >"$dir/want"
+relay 10.0.0.9
+same 'no prefixes' "$(od -An -tx1 -v "$dir/want")" "$(od -An -tx1 -v "$dir/out")"
+# and back, by a hut that takes the one for the other
+{ bytes "$head" && site 's/ 40 / 3E /'; } >"$dir/want"
+# shellcheck disable=SC2086
+relay $prefixes
+mv "$dir/out" "$dir/in"
+relay --prefix 2001:db8:1::/48 fd01:203:405::/48
+same 'prefixes and back' "$(od -An -tx1 -v "$dir/want")" "$(od -An -tx1 -v "$dir/out")"
+
+# What has no prefix to exchange goes on with its addresses: a source one bit off, also of the subnet FFFF; the inside prefix
+# in a destination, and the outside one in a source; a fragment between others; and IPv4, also where its bytes from 8 on,
+# the lifetime lowered, are those of a prefix.
+strangers() { # SED
+    while read -r size packet; do
+        bytes "$size" "$(echo "$packet" | sed "$1")"
+    done <<END
+0033 60000000 000B 11 40 FD0102030404 0001 $station $far $report 2C55 486921
+0033 60000000 000B 11 40 20010DB80009 FFFF 0000000000000009 $far $report 13C8 486921
+0033 60000000 000B 11 40 $far $in6 $report 2C54 486921
+0033 60000000 000B 11 40 $out6 $far $report 2C54 486921
+0038 60000000 0010 2C 40 $out6 $in6 1100 0011 00000007 $more
+001C $echo4
+END
+}
+{ bytes "$head" && strangers ''; } >"$dir/in"
+{ bytes "$head" && strangers 's/ 40 / 3F /; s/66DF/67DF/'; } >"$dir/want"
+# shellcheck disable=SC2086
+relay $prefixes
+same 'strangers: exit status' 0 "$status"
+same 'strangers: what it says' 'hut: relayed 1: fragments, destination kept
+hut: records 6 relayed 6 dropped 0' "$(cat "$dir/said")"
+same 'strangers: what it writes' "$(od -An -tx1 -v "$dir/want")" "$(od -An -tx1 -v "$dir/out")"
+relay --prefix 3f01:67df:a00::/48 2001:db8:1::/48
+same 'strangers, IPv4 with a prefix at 8' "$(od -An -tx1 -v "$dir/want")" "$(od -An -tx1 -v "$dir/out")"
+
+# What is dropped, since it has a prefix and can't exchange it: the subnet FFFF, of the source and of the destination, also
+# where the source is exchanged; first and later fragments, also behind hop-by-hop options. And what is dropped as ever:
+# spent lifetimes, a damaged message, no sum, another protocol, missing bytes.
+bytes "$head" \
+    0033 "60000000 000B 11 40 $inside FFFF $station $far $report 2C55 486921" \
+    0033 "60000000 000B 11 40 $far $outside FFFF $station $report 01A5 486921" \
+    0033 "60000000 000B 11 40 $in6 $outside FFFF $station $report 1A31 486921" \
+    0040 "60000000 0018 2C 40 $in6 $far 1100 0001 00000007 $begin 0000 $text" \
+    0038 "60000000 0010 2C 40 $far $out6 1100 0011 00000007 $more" \
+    0040 "60000000 0018 00 40 $in6 $far 2C00 $pad 1100 0011 00000007 $more" \
+    0033 "60000000 000B 11 01 $in6 $far $report 2C54 486921" \
+    0038 "60000000 0010 2C 01 $in6 $far 1100 0011 00000007 $more" \
+    0033 "60000000 000B 11 40 $in6 $far $report 2C54 486920" \
+    0033 "60000000 000B 11 40 $in6 $far $report 0000 486921" \
+    0033 "60000000 000B 3B 40 $in6 $far $report 2C54 486921" \
+    0032 "60000000 000B 11 40 $in6 $far $report 2C54 4869" >"$dir/in"
+# shellcheck disable=SC2086
+relay $prefixes
+same 'dropped prefixes: exit status' 0 "$status"
+same 'dropped prefixes: what it says' 'hut: dropped 1: cut
+hut: dropped 3: fragment
+hut: dropped 1: uncovered
+hut: dropped 1: missing
+hut: dropped 1: message sum
+hut: dropped 3: place
+hut: dropped 2: spent
+hut: records 12 relayed 0 dropped 12' "$(cat "$dir/said")"
+same 'dropped prefixes: size' 5 "$(($(wc -c <"$dir/out")))"
+
+# Words that are no prefix of 48 bits, for the one and for the other.
+for word in '' / /48 fd01:203:405:: fd01:203:405::/ fd01:203:405::/4 fd01:203:405::/47 fd01:203:405::/49 fd01:203:405::/64 \
+    fd01:203:405::/048 fd01:203:405::/48x 'fd01:203:405::/48 ' ' fd01:203:405::/48' fd01:203:405::/48/48 \
+    fd01:203:405::1/48 fd01:203:405:1::/48 fd01:203:405:8000::/48 fd01:203:405/48 fd01:203:405::0::/48 fd01:203:10405::/48 \
+    10.0.0.0/48 10.0.0.9 --help 0000:0000:0000:0000:0000:0000:0000:0000:0000:0000/48; do
+    said="hut: $word is no prefix of 48 bits, such as fd01:203:405::/48"
+    relay --prefix "$word" 2001:db8:1::/48
+    same "inside '$word'" "2 $said" "$status $(cat "$dir/said" "$dir/out")"
+    relay --prefix fd01:203:405::/48 "$word"
+    same "outside '$word'" "2 $said" "$status $(cat "$dir/said" "$dir/out")"
+done
+usage=$("$x86" run "$hut" --help)
+for words in --prefix '--prefix fd01:203:405::/48' "$prefixes ::/48" "10.0.0.9 $prefixes" "$prefixes 10.0.0.9" \
+    '10.0.0.9 fd01:203:405::/48 ::/48' '10.0.0.9 10.0.0.8'; do
+    # shellcheck disable=SC2086
+    relay $words
+    same "hut $words" "2 $usage" "$status $(cat "$dir/said" "$dir/out")"
+done
+
 # Damaged input: said in words, exit status 1, and what was relayed before is a whole capture.
 damaged() { # WORDS HEX..
     words=$1

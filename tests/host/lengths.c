@@ -5,9 +5,9 @@
  * The block that is summed has BLOCK bytes, and the chain CHAIN or a few more: over 2^32, or fewer in an
  * emulator. LIST is 1 if a chain of 2^64 bytes is tried too, and 0 if its long list would take too long.
  *
- * Packets, addresses and captures lie before memory that can't be touched: with a length of more than
- * 2^32 a call that looked at a byte behind them would end the program. Each such length is chosen so
- * that its low 32 bits would give another answer.
+ * Packets, addresses, prefixes and captures lie before memory that can't be touched: with a length of
+ * more than 2^32 a call that looked at a byte behind them would end the program. Each such length is
+ * chosen so that its low 32 bits would give another answer.
  */
 #define _GNU_SOURCE
 #include <stdio.h>
@@ -95,6 +95,7 @@ static void packets(void)
         expect(hifrostum_set_stretch(p, len, 1, b + 3, 1), 0, "a stretch");
         expect(p[29], 9, "the stretch");
         expect(hifrostum_judge(p, len), 0, "judge what was edited");
+        expect(hifrostum_exchange_prefix(p, len, 1, b, 4, b, 4), 3, "a prefix of IPv4");
         expect(hifrostum_set_address(p, len, 1, b, over + 4), 10, "an address of 2^32 + 4 bytes");
         expect(hifrostum_set_stretch(p, len, 0, b, over + 1), 10, "a stretch of 2^32 + 1 bytes");
         expect(hifrostum_set_stretch(p, len, over, b, 1), 10, "place 2^32");
@@ -114,8 +115,10 @@ static void headers_between(void)
         0x60, 0, 0, 0, 0, 27, 0, 64, [23] = 1, [39] = 1, 60, 0, 1, 4, 0, 0, 0, 0, 17, 0, 1, 4, 0, 0, 0, 0,
         0x13, 0x88, 0x13, 0x89, 0, 11, 0x6F, 0x5C, 0x48, 0x69, 0x21,
     };
+    static const uint8_t outside[6] = {0x20, 1, 0x0D, 0xB8, 0, 1};
     static const size_t tails[] = {0, 50};
-    uint8_t *p = before_wall(67);
+    uint8_t *p = before_wall(67), *old = before_wall(6), *new = before_wall(6);
+    memcpy(new, outside, 6);
     for (size_t i = 0; i < 2; i++) {
         size_t len = over + tails[i];
         memcpy(p, good, 67);
@@ -127,7 +130,16 @@ static void headers_between(void)
         expect(hifrostum_set_stretch(p, len, 2, good + 66, 1), 0, "the same stretch");
         expect(hifrostum_set_stretch(p, len, 2, good + 65, 2), 10, "a stretch past the body");
         expect((unsigned)memcmp(p, good, 67), 0, "what these give");
+        expect(hifrostum_exchange_prefix(p, len, 1, old, over + 6, new, 6), 10, "an expected prefix of 2^32 + 6");
+        expect(hifrostum_exchange_prefix(p, len, 1, old, 6, new, over + 6), 10, "a new prefix of 2^32 + 6 bytes");
+        expect(hifrostum_exchange_prefix(p, len, 1, old, 6, new, 6), 0, "a prefix");
+        expect((unsigned)memcmp(p + 24, outside, 6), 0, "the prefix");
+        expect(256u * p[30] + p[31], 0xD245, "the word behind it");
+        expect(hifrostum_judge(p, len), 0, "judge what was exchanged");
+        expect(hifrostum_exchange_prefix(p, len, 1, new, 6, old, 6), 0, "and back");
+        expect((unsigned)memcmp(p, good, 67), 0, "what was there");
         p[49] = 2;
+        expect(hifrostum_exchange_prefix(p, len, 1, old, 6, new, 6), 4, "a prefix before a header past the end");
         expect(hifrostum_judge(p, len), 4, "a header past the payload's end");
         expect(hifrostum_mend(p, len), 4, "mend it");
         p[5] = 16;

@@ -38,6 +38,15 @@ enum branch {
     BLANK_AFTER,    /* or would be after it */
     LOWERED_FAULT,  /* a lifetime is lowered that stands before a message which can't be judged */
     LOWERED_SILENT, /* or before UDP over IPv6 with the field 0000 */
+    PREFIX_FOUR,    /* a prefix isn't exchanged, since the packet is IPv4 */
+    PREFIX_OTHER,   /* or since the address begins with another */
+    PREFIX_FULL,    /* or since the word behind it is FFFF */
+    PREFIX_ZERO,    /* a prefix is exchanged, and the word comes to 0000 */
+    PREFIX_LAST,    /* or to FFFE */
+    PREFIX_SAME,    /* or stays, since the new prefix is the old one */
+    PREFIX_CLASS,   /* or stays, since the new prefix is another of the same class */
+    PREFIX_BLANK,   /* and the address comes to zeros alone, or from them */
+    PREFIX_FIELD,   /* and a message field stays at FFFF that an address edit makes 0000 */
     TAIL_LENGTH,    /* a datagram doesn't pass that would with the message's length in its pseudo-header */
     TAIL_SUMMED,    /* or with the tail summed */
     TAIL_BOTH,      /* or with both */
@@ -440,6 +449,48 @@ static unsigned set_address(struct packet *p, unsigned side, const uint8_t *new)
     if (p->kind->protocol != ICMP)
         renew_message(p, 0, at, new, size);
     memcpy(at, new, size);
+    return 0;
+}
+
+/* Looks which branches an exchange takes that is done. */
+static void meet_exchange(const struct packet *p, unsigned field, const uint8_t *old, const uint8_t *new)
+{
+    static const uint8_t zeros[16];
+    int same = memcmp(old, new, 6) == 0, blank = memcmp(old, zeros, 16) == 0 || memcmp(new, zeros, 16) == 0;
+    meet(p, PREFIX_ZERO, word(new + 6) == 0);
+    meet(p, PREFIX_LAST, word(new + 6) == 0xFFFE);
+    meet(p, PREFIX_SAME, same);
+    meet(p, PREFIX_CLASS, !same && word(old + 6) == word(new + 6));
+    meet(p, PREFIX_BLANK, !same && blank);
+    meet(p, PREFIX_FIELD, field == 0xFFFF && p->kind->protocol != UDP);
+}
+
+/* Exchanges the first six bytes of an address, and sets the word behind them to what keeps the address's total modulo
+ * 65535. */
+static unsigned exchange_prefix(struct packet *p, size_t side, const uint8_t *expected, size_t expected_len,
+                                const uint8_t *new, size_t new_len)
+{
+    meet(p, PREFIX_FOUR, p->built->family == 4);
+    if (p->built->family == 4)
+        return 3;
+    unsigned refusal = refused(p);
+    if (refusal)
+        return refusal;
+    if (silent(p))
+        return 8;
+    if (side > 1 || expected_len != 6 || new_len != 6)
+        return 10;
+    uint8_t *at = p->bytes + 8 + 16 * side, was[16];
+    int other = memcmp(at, expected, 6) != 0, full = word(at + 6) == 0xFFFF;
+    meet(p, PREFIX_OTHER, other);
+    meet(p, PREFIX_FULL, !other && full);
+    if (other || full)
+        return 10;
+    memcpy(was, at, 16);
+    memcpy(at, new, 6);
+    put(at + 6, 0);
+    put(at + 6, (total(was, 16) % 65535 + 65535 - total(at, 16) % 65535) % 65535);
+    meet_exchange(p, word(field_of(p)), was, at);
     return 0;
 }
 
