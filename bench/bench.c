@@ -3,14 +3,15 @@
  *
  *     bench calls        calls each once, between begin() and end(), and prints a line for each call:
  *                        what an emulator's trace is counted by
- *     bench lengths      the same for the library's lifetime edit alone, for lengths from 64 to 60,000
- *     bench ten          the same for those ten of the library's calls whose counts the gate watches
+ *     bench lengths      the same for three of the library's edits alone, for lengths from 64 to 60,000
+ *     bench watched      the same for those of the library's calls whose counts the gate watches
  *     bench nine         the same for the nine calls whose cycles are estimated
  *     bench times        measures nanoseconds for each call, and prints a line for each
  *     bench same COUNT   holds same.c to the library on so many random packets
  *
  * A line is operation, packet, way and for times the nanoseconds, with bars between. All ways are first seen to do the
- * same. With ONLY_OURS defined the library alone is there, and without CLANG the ways by clang aren't. */
+ * same. With ONLY_OURS defined the library alone is there, with NO_PREFIX it is one of before that exchanges none, and
+ * without CLANG the ways by clang aren't there. */
 #define _POSIX_C_SOURCE 200809L
 #include <stdio.h>
 #include <stdlib.h>
@@ -19,15 +20,18 @@
 
 #include "ways.h"
 
-enum operation { FIELD, CHAIN, JUDGE, MEND, LOWER, ADDRESS, STRETCH, OPERATIONS };
+enum operation { FIELD, CHAIN, JUDGE, MEND, LOWER, ADDRESS, STRETCH, PREFIX, OPERATIONS };
 enum { LONGEST = 60000, PIECE = 63, BATCH = 64, ROUNDS = 3000 };
 
 static const char *const names[OPERATIONS] = {
-    "field", "chain", "judge", "mend", "lower lifetime", "set address", "set stretch",
+    "field", "chain", "judge", "mend", "lower lifetime", "set address", "set stretch", "exchange prefix",
 };
+#ifdef NO_PREFIX
+#define hifrostum_exchange_prefix 0
+#endif
 static const struct way library = {
     "ours", hifrostum_field, hifrostum_sum_chain, hifrostum_judge, hifrostum_mend, hifrostum_lower_lifetime,
-    hifrostum_set_address, hifrostum_set_stretch,
+    hifrostum_set_address, hifrostum_set_stretch, hifrostum_exchange_prefix,
 };
 static const struct way *const ours = &library;
 
@@ -50,7 +54,7 @@ static const struct {
 };
 enum { WAYS = sizeof ways / sizeof *ways };
 
-static const size_t lengths[] = {40, 64, 128, 576, 1500}, lifetimes[] = {64, 128, 576, 1500, 9000, 60000};
+static const size_t lengths[] = {40, 64, 128, 576, 1500};
 static const uint8_t new[16] = {0xFD, 0x12, 0x34, 0x56, 0x78, 0x9A, 0xBC, 0xDE, 0xF0, 1, 2, 3, 4, 5, 6, 7};
 
 /* What a call is given; a sum takes any bytes. A fragment is one from the middle of a datagram. The last has a
@@ -65,14 +69,19 @@ struct row {
     enum packet packet;
     size_t len;
 };
-static const struct row ten[] = {
-    {JUDGE, IPV4, 40}, {JUDGE, IPV4, 64}, {JUDGE, IPV4, 1500}, {JUDGE, IPV6, 64},   {MEND, IPV4, 64},
-    {MEND, IPV6, 64},  {LOWER, IPV4, 64}, {ADDRESS, IPV4, 64}, {STRETCH, IPV4, 64}, {FIELD, IPV4, 64},
+static const struct row watched[] = {
+    {JUDGE, IPV4, 40}, {JUDGE, IPV4, 64},   {JUDGE, IPV4, 1500}, {JUDGE, IPV6, 64},  {MEND, IPV4, 64}, {MEND, IPV6, 64},
+    {LOWER, IPV4, 64}, {ADDRESS, IPV4, 64}, {STRETCH, IPV4, 64}, {PREFIX, IPV6, 64}, {FIELD, IPV4, 64},
 };
 static const struct row nine[] = {
     {JUDGE, IPV4, 64}, {JUDGE, IPV4, 1500}, {JUDGE, IPV6, 64},   {MEND, IPV4, 64},    {MEND, IPV4, 1500},
     {LOWER, IPV4, 64}, {ADDRESS, IPV4, 64}, {STRETCH, IPV4, 64}, {FIELD, IPV4, 1500},
 };
+
+/* The prefix of a packet's destination, and another. Who exchanges them takes turns, so that the next call finds what
+ * it expects. */
+static uint8_t prefixes[2][6] = {{0}, {0x20, 0x01, 0x0D, 0xB8, 0, 1}};
+static int turn;
 
 /* The pieces of a chain: a header of 20 bytes, and the rest 63 bytes at a time, so that odd pieces begin at even and
  * at odd places. */
@@ -101,11 +110,16 @@ __attribute__((noinline)) void end(void)
 
 static int has(const struct way *way, enum operation op)
 {
-    return op == FIELD ? way->field != 0 : op == CHAIN ? way->chain != 0 : op >= LOWER || way->judge;
+    switch (op) {
+    case FIELD: return way->field != 0;
+    case CHAIN: return way->chain != 0;
+    case PREFIX: return way->prefix != 0;
+    default: return op >= LOWER || way->judge;
+    }
 }
 
-/* One call. A chain answers its fold behind its length, or 1; a new address is a destination; a stretch is 8 bytes
- * from the odd place 3 on. It stands in counted() itself, whose instructions don't count. */
+/* One call. A chain answers its fold behind its length, or 1; a new address or prefix is a destination's; a stretch is
+ * 8 bytes from the odd place 3 on. It stands in counted() itself, whose instructions don't count. */
 static inline __attribute__((always_inline)) unsigned call(const struct way *way, enum operation op, uint8_t *packet,
                                                            size_t len)
 {
@@ -118,7 +132,8 @@ static inline __attribute__((always_inline)) unsigned call(const struct way *way
     case MEND: return way->mend(packet, len);
     case LOWER: return way->lower(packet, len);
     case ADDRESS: return way->address(packet, len, 1, new, packet[0] >> 4 == 4 ? 4 : 16);
-    default: return way->stretch(packet, len, 3, new, 8);
+    case STRETCH: return way->stretch(packet, len, 3, new, 8);
+    default: return way->prefix(packet, len, 1, prefixes[turn], 6, prefixes[1 - turn], 6);
     }
 }
 
@@ -220,7 +235,7 @@ static void print_row(struct row r, size_t w)
 }
 
 /* The best of many batches for each way, all ways taking turns. Each batch begins with the good packet, and none of its
- * calls may be refused. */
+ * calls may be refused: an even number of them leaves the turn as it was. */
 static void timed(struct row r, const uint8_t *packet)
 {
     static uint8_t copy[LONGEST];
@@ -232,7 +247,7 @@ static void timed(struct row r, const uint8_t *packet)
             memcpy(copy, packet, r.len);
             unsigned answers = 0;
             double start = now();
-            for (int i = 0; i < BATCH; i++)
+            for (int i = 0; i < BATCH; i++, turn = 1 - turn)
                 answers |= call(*ways[w].way, r.op, copy, r.len);
             double each = (now() - start) / BATCH;
             if (best[w] == 0 || each < best[w])
@@ -254,6 +269,7 @@ static void measure(int calls, struct row r, size_t first)
 {
     static uint8_t packet[LONGEST];
     build(packet, r.packet, r.len);
+    memcpy(prefixes[0], packet + 24, sizeof prefixes[0]);
     cut(r.len);
     for (size_t w = 0; w < first; w++) {
         if (!has(*ways[w].way, r.op) || !compare(*ways[w].way, r.op, packet, r.len))
@@ -268,12 +284,14 @@ static void measure(int calls, struct row r, size_t first)
         timed(r, packet);
 }
 
-/* UDP has bytes behind its IP header, a sum has no family, and of fragments only a lifetime is edited. */
+/* UDP has bytes behind its IP header, a sum has no family, of fragments only a lifetime is edited, and prefixes are
+ * IPv6's. */
 static int possible(struct row r)
 {
     size_t header = r.packet == IPV4 || r.packet == FRAGMENT4 ? 20 : r.packet == HOP_BY_HOP ? 40 + BETWEEN : 40;
     int fragment = r.packet == FRAGMENT4 || r.packet == FRAGMENT6;
-    return r.len > header && (r.op > CHAIN || r.packet == IPV4) && (!fragment || r.op == LOWER);
+    return r.len > header && (r.op > CHAIN || r.packet == IPV4) && (!fragment || r.op == LOWER) &&
+           (r.op != PREFIX || r.packet != IPV4);
 }
 
 static void measure_all(int calls)
@@ -285,6 +303,16 @@ static void measure_all(int calls)
                 if (possible(r))
                     measure(calls, r, WAYS);
             }
+}
+
+/* Edits of the library's whose cost must not grow with the packet. */
+static void measure_lengths(void)
+{
+    static const struct row edits[] = {{LOWER, IPV4, 0}, {ADDRESS, IPV6, 0}, {PREFIX, IPV6, 0}};
+    static const size_t longer[] = {64, 128, 576, 1500, 9000, 60000};
+    for (size_t e = 0; e < sizeof edits / sizeof *edits; e++)
+        for (size_t i = 0; i < sizeof longer / sizeof *longer; i++)
+            measure(1, (struct row){edits[e].op, edits[e].packet, longer[i]}, 1);
 }
 
 #ifndef ONLY_OURS
@@ -307,11 +335,10 @@ int main(int argc, char **argv)
     if (strcmp(what, "calls") == 0 || strcmp(what, "times") == 0)
         measure_all(what[0] == 'c');
     else if (strcmp(what, "lengths") == 0)
-        for (size_t i = 0; i < sizeof lifetimes / sizeof *lifetimes; i++)
-            measure(1, (struct row){LOWER, IPV4, lifetimes[i]}, 1);
-    else if (strcmp(what, "ten") == 0)
-        for (size_t i = 0; i < sizeof ten / sizeof *ten; i++)
-            measure(1, ten[i], 1);
+        measure_lengths();
+    else if (strcmp(what, "watched") == 0)
+        for (size_t i = 0; i < sizeof watched / sizeof *watched; i++)
+            measure(1, watched[i], 1);
     else if (strcmp(what, "nine") == 0)
         for (size_t i = 0; i < sizeof nine / sizeof *nine; i++)
             measure(1, nine[i], WAYS);
@@ -320,7 +347,7 @@ int main(int argc, char **argv)
         hold_same(strtoul(argv[2], NULL, 10));
 #endif
     else {
-        fprintf(stderr, "usage: bench calls|lengths|ten|nine|times|same COUNT\n");
+        fprintf(stderr, "usage: bench calls|lengths|watched|nine|times|same COUNT\n");
         return 2;
     }
     return 0;

@@ -171,10 +171,11 @@ static size_t damage(uint8_t *p, size_t len, const struct built *b)
 }
 
 /* What is called, with which arguments. */
+enum { CALLS = 7, VERDICTS = 13 };
 struct call {
     int op;
-    size_t len, number, new_len;
-    uint8_t new[ROOM];
+    size_t len, number, new_len, expected_len;
+    uint8_t new[ROOM], expected[16];
 };
 
 static unsigned make(const struct way *way, const struct call *c, uint8_t *p)
@@ -185,7 +186,29 @@ static unsigned make(const struct way *way, const struct call *c, uint8_t *p)
     case 2: return way->mend(p, c->len);
     case 3: return way->lower(p, c->len);
     case 4: return way->address(p, c->len, (uint32_t)c->number, c->new, c->new_len);
-    default: return way->stretch(p, c->len, c->number, c->new, c->new_len);
+    case 5: return way->stretch(p, c->len, c->number, c->new, c->new_len);
+    default:
+        return way->prefix(p, c->len, (uint32_t)c->number, c->expected, c->expected_len, c->new, c->new_len);
+    }
+}
+
+/* Prefixes, mostly of six bytes: an expected one that stands there, that differs in a bit, or any, and a new one, which
+ * is sometimes the same, or has the same words in another order. */
+static void choose_prefix(struct call *c, const uint8_t *p)
+{
+    const uint8_t *at = p + 8 + 16 * (c->number % 2);
+    c->expected_len = below(20) ? 6 : below(16);
+    c->new_len = below(20) ? 6 : below(16);
+    memcpy(c->expected, at, 16);
+    if (below(10) == 0)
+        c->expected[below(6)] ^= (uint8_t)(1 << below(8));
+    if (below(20) == 0)
+        fill(c->expected, 16);
+    if (below(8) == 0)
+        memcpy(c->new, at, 6);
+    if (below(8) == 0) {
+        memcpy(c->new + 2, at, 4);
+        memcpy(c->new, at + 4, 2);
     }
 }
 
@@ -194,11 +217,14 @@ static void choose(struct call *c, const uint8_t *p)
 {
     int four = p[0] >> 4 == 4;
     fill(c->new, ROOM);
-    if (c->op == 4) {
+    if (c->op == 4 || c->op == 6)
         c->number = below(10) ? below(2) : below(2) ? below(5) : 0xFFFFFFFF - below(2);
+    if (c->op == 4) {
         c->new_len = below(10) ? (four ? 4 : 16) : below(20);
         if (below(8) == 0)
             memcpy(c->new, p + (four ? 12 : 8), 16);
+    } else if (c->op == 6) {
+        choose_prefix(c, p);
     } else if (c->op == 5) {
         size_t size = below(3) ? 40 : 1500;
         c->number = below(10) ? below(size / 2) : below(2) ? below(ROOM) : SIZE_MAX - below(4);
@@ -229,7 +255,7 @@ unsigned long differ(const struct way *ours, const char *by, const struct way *w
 {
     static uint8_t packet[ROOM + GUARD], want[ROOM + GUARD], got[ROOM + GUARD];
     static struct call c;
-    unsigned long calls = 0, seen[SORTS][6][13] = {{{0}}};
+    unsigned long calls = 0, seen[SORTS][CALLS][VERDICTS] = {{{0}}};
     state = seed * 0x9E3779B97F4A7C15 + 1;
     for (unsigned long i = 0; i < packets; i++) {
         struct built b;
@@ -243,7 +269,7 @@ unsigned long differ(const struct way *ours, const char *by, const struct way *w
             c.len = damage(packet, c.len, &b);
         if (packet[0] >> 4 == 4 && below(3) == 0)
             seal(packet);
-        for (c.op = 0; c.op < 6; c.op++) {
+        for (c.op = 0; c.op < CALLS; c.op++) {
             choose(&c, packet);
             memcpy(want, packet, sizeof packet);
             memcpy(got, packet, sizeof packet);
@@ -253,18 +279,18 @@ unsigned long differ(const struct way *ours, const char *by, const struct way *w
                 show(&c, packet, a, b);
                 exit(1);
             }
-            for (int sort = 0; sort < SORTS && c.op > 0 && a < 13; sort++)
+            for (int sort = 0; sort < SORTS && c.op > 0 && a < VERDICTS; sort++)
                 seen[sort][c.op][a] += (unsigned)is[sort];
             calls++;
         }
     }
     /* every verdict that a call has for packets of this sort must have been met, and no other */
-    static const unsigned possible[SORTS][6] = {
-        {0, 0x3FF, 0xDD, 0x81D, 0x5DD, 0x15DD}, {0, 0x323, 1, 0x801, 0x501, 0x501},
-        {0, 0x311, 0x11, 0x801, 0x511, 0x511},  {0, 0x3D1, 0xD1, 0x801, 0x5D1, 0x5D1},
+    static const unsigned possible[SORTS][CALLS] = {
+        {0, 0x3FF, 0xDD, 0x81D, 0x5DD, 0x15DD, 0x5DD}, {0, 0x323, 1, 0x801, 0x501, 0x501, 0x509},
+        {0, 0x311, 0x11, 0x801, 0x511, 0x511, 0x511},  {0, 0x3D1, 0xD1, 0x801, 0x5D1, 0x5D1, 0x5D1},
     };
-    for (int i = 0; i < SORTS * 6 * 13 && packets >= 10000; i++) {
-        int sort = i / 78, op = i / 13 % 6, v = i % 13;
+    for (int i = 0; i < SORTS * CALLS * VERDICTS && packets >= 10000; i++) {
+        int sort = i / (CALLS * VERDICTS), op = i / VERDICTS % CALLS, v = i % VERDICTS;
         if ((seen[sort][op][v] == 0) == (possible[sort][op] >> v & 1)) {
             fprintf(stderr, "bench: operation %d answered %d %lu times%s\n", op, v, seen[sort][op][v], sorts[sort]);
             exit(1);

@@ -51,7 +51,7 @@ once='' copies=''
 for by in $compilers; do
     once="$once;$by: once" copies="$copies;$by: copies"
 done
-plain=';RFC 1071 loop;64-bit loop;DPDK shape;RFC 1624 by hand' same="$once$copies;adc;SSE2"
+plain=';RFC 1071 loop;64-bit loop;DPDK shape;RFC 1624 or 6296 by hand' same="$once$copies;adc;SSE2"
 
 commit=$(git rev-parse --short HEAD 2>/dev/null) || commit=unknown
 git diff --quiet HEAD -- crates crates.txt 2>/dev/null || commit="$commit, with changes"
@@ -66,8 +66,10 @@ $x86 run $out/bench same 200000
 bench/count.sh $out/bench calls >$out/calls
 before='' old=''
 if [ -n "${BEFORE:-}" ]; then
+    less=
+    $x86 nm "$BEFORE" | grep -q ' T hifrostum_exchange_prefix$' || less=-DNO_PREFIX
     # shellcheck disable=SC2086
-    $x86 cc -O2 $flags -DONLY_OURS -static bench/bench.c "$BEFORE" -o $out/bench-before
+    $x86 cc -O2 $flags $less -DONLY_OURS -static bench/bench.c "$BEFORE" -o $out/bench-before
     bench/count.sh $out/bench-before calls >$out/before
     sed 's/| ours |/| before |/' $out/before >>$out/calls
     before=';before' old=$out/bench-before
@@ -88,16 +90,33 @@ echo
 table same "ours$before$same" <$out/calls
 
 echo
-echo "Instructions for lowering the lifetime of an IPv4 packet, by its length:"
+echo "Instructions of three edits, by the packet's length:"
 echo
-echo "| bytes | instructions |"
-echo "|---|---|"
 bench/count.sh $out/bench lengths >$out/lengths
-sed 's/^[^|]*| IPv4 \([0-9]*\) |[^|]*|/| \1 |/; s/$/ |/' $out/lengths
-if [ "$(sed 's/.*| //' $out/lengths | sort -u | wc -l)" -ne 1 ]; then
-    echo "bench: the edit's cost grows with the packet" >&2
+awk -F ' *[|] *' '
+    {
+        split($2, packet, " ")
+        edit = $1 ", " packet[1]
+        if (!(edit in row)) {
+            edits[++count] = edit
+            cost[edit] = $4
+        }
+        if (count == 1) {
+            head = head " " packet[2] " |"
+            rule = rule "---|"
+        }
+        row[edit] = row[edit] " " $4 " |"
+        grows = grows || $4 != cost[edit]
+    }
+    END {
+        print "| edit |" head "\n|---|" rule
+        for (i = 1; i <= count; i++)
+            print "| " edits[i] " |" row[edits[i]]
+        exit grows
+    }' $out/lengths || {
+    echo "bench: an edit's cost grows with the packet" >&2
     exit 1
-fi
+}
 
 echo
 # shellcheck disable=SC2086

@@ -374,6 +374,30 @@ EACH uint8_t stretched(uint8_t *p, struct message m, struct ask ask)
     return 0;
 }
 
+/* Whether a message has a sum where it must: nothing else of it concerns a prefix. */
+EACH uint8_t present(uint8_t *p, struct message m, struct ask ask)
+{
+    (void)ask;
+    return silent(p, m) ? 8 : 0;
+}
+
+EACH u64 six(const uint8_t *at)
+{
+    return four(at) | (u64)two(at + 4) << 32;
+}
+
+/* Modulo 65535 a number of eight bytes is the sum of its words, and the complement of one of six bytes is minus that:
+ * the old words less the new prefix are the new word. */
+EACH uint8_t exchange(uint8_t *at, u64 expected, u64 new)
+{
+    u64 old = eight(at), ones = 0xFFFFFFFFFFFF;
+    if (RARE((old & ones) != expected) || RARE(old >> 48 == 0xFFFF))
+        return 10;
+    new |= add(old, new ^ ones) % 65535 << 48;
+    memcpy(at, &new, 8);
+    return 0;
+}
+
 /* The calls */
 
 static const struct ask none = {0, 0, 0, 0};
@@ -409,8 +433,23 @@ static uint8_t stretch(uint8_t *packet, size_t len, size_t place, const uint8_t 
     return whole(stretched, SHAPED, packet, len, (struct ask){place, bytes_len, bytes, 0});
 }
 
+static uint8_t prefix(uint8_t *packet, size_t len, uint32_t side, const uint8_t *expected, size_t expected_len,
+                      const uint8_t *bytes, size_t bytes_len)
+{
+    if (RARE(len < 40))
+        return len == 0 || packet[0] >> 4 == 6 ? 2 : 3;
+    if (RARE(packet[0] >> 4 != 6))
+        return 3;
+    uint8_t refused = whole(present, SHAPED, packet, len, none);
+    if (RARE(refused))
+        return refused;
+    if (RARE(side > 1) || RARE(expected_len != 6) || RARE(bytes_len != 6))
+        return 10;
+    return exchange(packet + 8 + 16 * side, six(expected), six(bytes));
+}
+
 static const struct way way = {
     SHAPE == ONCE ? "once" : KIND == PLAIN ? "copies" : KIND == CHAINS ? "adc" : "SSE2",
-    field, 0, judge, mend, lower, address, stretch,
+    field, 0, judge, mend, lower, address, stretch, prefix,
 };
 const struct way *const BY = &way;

@@ -1,7 +1,8 @@
 /* What a C user would take instead of the library: three ways to sum, and chains, a relay's judge, mender
  * and edits over each. They serve UDP over IPv4 and IPv6 alone, and a lifetime whatever the message is, test
  * what a careful user tests, and sum in the machine's byte order, as RFC 1071 advises. An edit sums afresh
- * what it touched, but for the last way, which updates by RFC 1624. All answer 1 where they refuse. */
+ * what it touched, but for the last way, which updates by RFC 1624, and exchanges prefixes by RFC 6296. All
+ * answer 1 where they refuse. */
 #include "ways.h"
 
 #include <string.h>
@@ -275,7 +276,7 @@ EACH uint8_t stretch(summing sum, uint8_t *p, size_t len, size_t where, const ui
         return stretch(sum_##name, p, n, where, new, new_len);                                                 \
     }                                                                                                          \
     static const struct way name = {words,       name##_field, name##_chain,   name##_judge,                   \
-                                    name##_mend, name##_lower, name##_address, name##_stretch}
+                                    name##_mend, name##_lower, name##_address, name##_stretch, 0}
 
 WAY(rfc1071, "RFC 1071 loop");
 WAY(wide, "64-bit loop");
@@ -338,7 +339,26 @@ static uint8_t hand_stretch(uint8_t *p, size_t len, size_t where, const uint8_t 
     return 0;
 }
 
-static const struct way by_hand = {"RFC 1624 by hand", 0, 0, 0, 0, hand_lower, hand_address, hand_stretch};
+/* RFC 6296 for prefixes of 48 bits. No message is looked at, nor is it known that there is one. */
+static uint8_t hand_prefix(uint8_t *p, size_t len, uint32_t side, const uint8_t *expected, size_t expected_len,
+                           const uint8_t *new, size_t new_len)
+{
+    enum { PREFIX = 6 };
+    if (len < 40 || p[0] >> 4 != 6 || side > 1 || expected_len != PREFIX || new_len != PREFIX)
+        return 1;
+    uint8_t *here = p + 8 + 16 * side;
+    if (memcmp(here, expected, PREFIX) != 0 || word(here + PREFIX) == 0xFFFF)
+        return 1;
+    uint16_t old_fold = sum_rfc1071(expected, PREFIX), new_fold = sum_rfc1071(new, PREFIX);
+    uint16_t after = fold((uint64_t)word(here + PREFIX) + old_fold + (uint16_t)~new_fold);
+    memcpy(here, new, PREFIX);
+    put(here + PREFIX, after == 0xFFFF ? 0 : after);
+    return 0;
+}
+
+static const struct way by_hand = {
+    "RFC 1624 or 6296 by hand", 0, 0, 0, 0, hand_lower, hand_address, hand_stretch, hand_prefix,
+};
 
 /* BY is plain_cc or plain_clang. */
 const struct way *const BY[PLAIN_WAYS] = {&rfc1071, &wide, &dpdk, &by_hand};

@@ -14,10 +14,11 @@ struct way {
     uint8_t (*lower)(uint8_t *, size_t);
     uint8_t (*address)(uint8_t *, size_t, uint32_t, const uint8_t *, size_t);
     uint8_t (*stretch)(uint8_t *, size_t, size_t, const uint8_t *, size_t);
+    uint8_t (*prefix)(uint8_t *, size_t, uint32_t, const uint8_t *, size_t, const uint8_t *, size_t);
 };
 
 /* ways.c, as one C compiler makes it and as clang does: the loop of RFC 1071, a 64-bit accumulator, the shape of DPDK's
- * rte_raw_cksum, and RFC 1624 by hand, which has no field, chain, judge or mend. */
+ * rte_raw_cksum, which exchange no prefix, and RFC 1624 and 6296 by hand, which have no field, chain, judge or mend. */
 enum { PLAIN_WAYS = 4 };
 extern const struct way *const plain_cc[PLAIN_WAYS], *const plain_clang[PLAIN_WAYS];
 
