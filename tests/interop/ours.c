@@ -1,10 +1,11 @@
 /* Calls the library for the interop test: requests on standard input, answers on standard output.
  *
- * A request is a letter (j judge, m mend, l lower lifetime, a set address, s set stretch, c sum a chain,
- * p sum piece by piece and join), a number (side or place), new bytes (for c and p the list of pieces)
- * and a packet; an answer is a verdict number and the packet (for c and p the fold and the length in its
- * place). Numbers are 32-bit, high byte first, and bytes come after their number. With the word live each
- * answer is out before the next request is awaited. */
+ * A request is a letter (j judge, m mend, l lower lifetime, a set address, s set stretch, x exchange
+ * prefix, c sum a chain, p sum piece by piece and join), a number (side or place), new bytes (for x the
+ * expected prefix and the new one, for c and p the list of pieces) and a packet; an answer is a verdict
+ * number and the packet (for c and p the fold and the length in its place). Numbers are 32-bit, high byte
+ * first, and bytes come after their number. With the word live each answer is out before the next request
+ * is awaited. */
 #include <stdio.h>
 #include <stdlib.h>
 #include <string.h>
@@ -67,6 +68,13 @@ static uint8_t sum(int joined, const uint8_t *list, size_t list_len, uint8_t *pa
     return verdict;
 }
 
+/* Two prefixes of one length stand one behind the other. */
+static uint8_t exchange(uint8_t *packet, size_t len, uint32_t side, const uint8_t *both, size_t both_len)
+{
+    size_t size = both_len / 2;
+    return hifrostum_exchange_prefix(packet, len, side, both, size, both + size, size);
+}
+
 int main(int argc, char **argv)
 {
     static uint8_t new[LONGEST], packet[LONGEST];
@@ -81,6 +89,7 @@ int main(int argc, char **argv)
         case 'l': verdict = hifrostum_lower_lifetime(packet, len); break;
         case 'a': verdict = hifrostum_set_address(packet, len, where, new, new_len); break;
         case 's': verdict = hifrostum_set_stretch(packet, len, where, new, new_len); break;
+        case 'x': verdict = exchange(packet, len, where, new, new_len); break;
         case 'c':
         case 'p': verdict = sum(letter == 'p', new, new_len, packet, &len); break;
         default: stop("no such letter");

@@ -1,6 +1,7 @@
-"""The other kernel as a judge of UDP: hands it packets as they are, from one network namespace to another.
+"""The other kernel as a judge: hands it packets as they are, from one network namespace to another. Post does so with
+UDP, straight, and Way with all that goes through our relay.
 
-It has sockets in both, so that one process sees all, and sends from one processor, whose queue keeps the order: what
+They have sockets in both, so that one process sees all, and send from one processor, whose queue keeps the order: what
 came before the mark that follows a packet is of that packet, and nothing else of it comes later.
 """
 import contextlib
@@ -8,10 +9,13 @@ import ctypes
 import os
 import socket
 
-CARD, PORT = "card", 50505  # both bytes of the port differ from talk.py's, so that one damaged byte doesn't lead there
+CARD, FAR_CARD = "card", "far"
+PORT = 50505  # both bytes differ from talk.py's, so that one damaged byte doesn't lead there
 HERE = {4: "10.99.0.1", 6: "fd99::1"}  # as run.sh gives them
 THERE = {4: "10.99.0.2", 6: "fd99::2"}
 TYPES = {4: 0x0800, 6: 0x86DD}
+PROTOCOLS = [6, 17, 58]
+COUNTED = ["Tcp:", "Udp6", "Icmp6"]  # what the kernel's counts of these are called; TCP's are of both families
 
 
 def enter(file):
@@ -30,6 +34,41 @@ def inside(namespace):
             enter(home)
 
 
+@contextlib.contextmanager
+def one_processor():
+    processors = os.sched_getaffinity(0)
+    os.sched_setaffinity(0, {min(processors)})
+    try:
+        yield
+    finally:
+        os.sched_setaffinity(0, processors)
+
+
+def box(port):
+    """A socket that gets all datagrams to a port, or to one that is free if it is 0."""
+    found = socket.socket(socket.AF_INET6, socket.SOCK_DGRAM)
+    found.setsockopt(socket.IPPROTO_IPV6, socket.IPV6_V6ONLY, 0)
+    found.bind(("::", port))
+    found.settimeout(5)
+    return found
+
+
+def counts(files):
+    """A kernel's counts: IPv4's, and TCP's of both families, by protocol and name, and IPv6's by names of its own."""
+    four, six = files
+    four.seek(0)
+    six.seek(0)
+    lines, found = [line.split() for line in four], dict(line.split() for line in six)
+    for names, values in zip(lines[::2], lines[1::2]):
+        found.update((names[0] + name, value) for name, value in zip(names[1:], values[1:]))
+    return {name: int(value) for name, value in found.items()}
+
+
+def count_files():
+    """Where the kernel of the namespace that this is called in has them."""
+    return open("/proc/self/net/snmp"), open("/proc/self/net/snmp6")
+
+
 class Post:
     """Sockets to send from in one namespace, and one to get datagrams in the other."""
 
@@ -42,24 +81,16 @@ class Post:
                 6: socket.socket(socket.AF_INET6, socket.SOCK_RAW, socket.IPPROTO_RAW),
             }
         with inside(there):
-            self.box = socket.socket(socket.AF_INET6, socket.SOCK_DGRAM)
-            self.box.setsockopt(socket.IPPROTO_IPV6, socket.IPV6_V6ONLY, 0)
-            self.box.bind(("::", PORT))
-            self.box.settimeout(5)
+            self.box, self.files = box(PORT), count_files()
             with socket.socket(socket.AF_PACKET, socket.SOCK_DGRAM) as card:
                 card.bind((CARD, 0))
                 self.address = card.getsockname()[4]
-            self.counts = open("/proc/self/net/snmp"), open("/proc/self/net/snmp6")
         self.marks = 0
 
     def counted(self):
         """How many datagrams the other kernel has refused, and how many of them for their sum."""
-        four, six = self.counts
-        four.seek(0)
-        six.seek(0)
-        names, values = [line.split() for line in four if line.startswith("Udp:")]
-        both = {**dict(zip(names, values)), **dict(line.split() for line in six)}
-        return [int(both[name]) + int(both["Udp6" + name]) for name in ("InErrors", "InCsumErrors")]
+        found = counts(self.files)
+        return [found["Udp:" + name] + found["Udp6" + name] for name in ("InErrors", "InCsumErrors")]
 
     def send(self, data, raw):
         """A packet as it is, tail and all; through a raw socket as far as the kernel, which writes IPv4's total length
@@ -82,9 +113,40 @@ class Post:
         return got, *(now - then for now, then in zip(self.counted(), before))
 
     def all_sent(self, packets):
-        processors = os.sched_getaffinity(0)
-        os.sched_setaffinity(0, {min(processors)})
-        try:
+        with one_processor():
             return [self.sent(data, raw) for data, raw in packets]
-        finally:
-            os.sched_setaffinity(0, processors)
+
+
+class Way:
+    """The way through our relay: frames from a card in one namespace to the kernel of another. Marks go from an address
+    of the first to one of the second, as the first knows it."""
+
+    def __init__(self, here, there, source, destination):
+        with inside(here):
+            self.marking = socket.socket(socket.AF_INET6, socket.SOCK_DGRAM)
+            self.marking.bind((source, 0))
+            self.card = socket.socket(socket.AF_PACKET, socket.SOCK_RAW)
+            self.card.bind((FAR_CARD, 0))
+        with inside(there):
+            self.box, self.files = box(0), count_files()
+        self.destination, self.marks = (destination, self.box.getsockname()[1]), 0
+
+    def wrong(self):
+        """How many wrong sums the other kernel has counted, by protocol."""
+        found = counts(self.files)
+        return [found[name + "InCsumErrors"] for name in COUNTED]
+
+    def sent(self, frame):
+        """By how much the counts grow with a frame."""
+        before = self.wrong()
+        self.marks += 1
+        mark = b"that was frame %d" % self.marks
+        self.card.send(frame)
+        self.marking.sendto(mark, self.destination)
+        while self.box.recv(65536) != mark:
+            pass
+        return [now - then for now, then in zip(self.wrong(), before)]
+
+    def all_sent(self, frames):
+        with one_processor():
+            return [self.sent(frame) for frame in frames]

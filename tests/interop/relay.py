@@ -1,16 +1,22 @@
-"""A relay between two cards: hands each IP packet to the library, and sends on what it lowered the lifetime of.
+"""A relay between two cards: hands each IP packet to the library, and sends on what that edited.
 
-relay.py LEFT RIGHT SEEN.pcap SENT.pcap OURS..: the cards' names, two captures that it writes, and the words that start
-ours.c's program. The captures have the same frames in the same order: SEEN as they came, and SENT as they went, with
-nothing behind the Ethernet head where the library refused. What isn't IP and what asks for neighbours, whose hop limit
-must stay, goes by unchanged and is in neither. Prints a line once it listens, and works until it is ended.
+relay.py EDIT LEFT RIGHT SEEN.pcap SENT.pcap OURS..: what it does, the cards' names, two captures that it writes, and
+the words that start ours.c's program. With `lower` it lowers each lifetime. With `exchange` it exchanges the prefixes
+of RFC 6296's example: the one inside for the one outside in the source of what comes from the left, and back in the
+destination of what comes from the right. The captures have the same frames in the same order: SEEN as they came, and
+SENT as they went, with nothing behind the Ethernet head where the library refused. What isn't IP and what asks for
+neighbours, who must find each other as they are, goes by unchanged and is in neither. Prints a line once it listens,
+and works until it is ended.
 """
+import os
 import selectors
 import signal
 import socket
 import struct
 import subprocess
 import sys
+
+from prefixes import INSIDE, OUTSIDE
 
 HEAD, OUTGOING, ALL, SO_RCVBUFFORCE, ROOM = 14, 4, 3, 33, 1 << 23
 ND = [bytes([kind]) for kind in range(133, 138)]  # ICMPv6 about neighbours and routers
@@ -24,15 +30,23 @@ def card(name):
     return s
 
 
-def is_for_lowering(frame):
+def is_for_us(frame):
     four, six = frame[12:14] == b"\x08\x00", frame[12:14] == b"\x86\xdd"
     neighbours = frame[HEAD + 6:HEAD + 7] == b"\x3a" and frame[HEAD + 40:HEAD + 41] in ND
     return four or six and not neighbours
 
 
-def lowered(ours, packet):
-    """Asks the library for one packet: the packet with its lifetime lowered, or none."""
-    ours.stdin.write(b"l" + struct.pack(">III", 0, 0, len(packet)) + packet)
+# What the library is asked for, by the card where a packet comes: a letter, a number and new bytes.
+EDITS = {
+    "lower": [(b"l", 0, b"")] * 2,
+    "exchange": [(b"x", 0, INSIDE + OUTSIDE), (b"x", 1, OUTSIDE + INSIDE)],
+}
+
+
+def edited(ours, edit, packet):
+    """Asks the library for one packet: the packet after the edit, or none."""
+    letter, number, new = edit
+    ours.stdin.write(letter + struct.pack(">II", number, len(new)) + new + struct.pack(">I", len(packet)) + packet)
     ours.stdin.flush()
     verdict, length = struct.unpack(">BI", ours.stdout.read(5))
     answer = ours.stdout.read(length)
@@ -51,25 +65,26 @@ def record(file, frame):
 
 
 def main():
-    left, right = card(sys.argv[1]), card(sys.argv[2])
-    seen, sent = capture(sys.argv[3]), capture(sys.argv[4])
-    ours = subprocess.Popen(sys.argv[5:] + ["live"], stdin=subprocess.PIPE, stdout=subprocess.PIPE)
+    os.sched_setaffinity(0, {min(os.sched_getaffinity(0))})  # one processor's queue keeps the order
+    edits, left, right = EDITS[sys.argv[1]], card(sys.argv[2]), card(sys.argv[3])
+    seen, sent = capture(sys.argv[4]), capture(sys.argv[5])
+    ours = subprocess.Popen(sys.argv[6:] + ["live"], stdin=subprocess.PIPE, stdout=subprocess.PIPE)
     signal.signal(signal.SIGTERM, lambda *_: sys.exit(0))
     picker = selectors.DefaultSelector()
-    picker.register(left, selectors.EVENT_READ, right)
-    picker.register(right, selectors.EVENT_READ, left)
+    picker.register(left, selectors.EVENT_READ, (right, edits[0]))
+    picker.register(right, selectors.EVENT_READ, (left, edits[1]))
     print("ready", flush=True)
     while True:
         for key, _ in picker.select():
-            frame, address = key.fileobj.recvfrom(65536)
+            (onward, edit), (frame, address) = key.data, key.fileobj.recvfrom(65536)
             if address[2] == OUTGOING:
                 continue
-            if is_for_lowering(frame):
+            if is_for_us(frame):
                 record(seen, frame)
-                frame = frame[:HEAD] + lowered(ours, frame[HEAD:])
+                frame = frame[:HEAD] + edited(ours, edit, frame[HEAD:])
                 record(sent, frame)
             if len(frame) > HEAD:
-                key.data.send(frame)
+                onward.send(frame)
 
 
 if __name__ == "__main__":

@@ -1,6 +1,6 @@
 #!/bin/sh
 # Holds the library to scapy, the Linux kernel and tshark. It needs root: it installs what is missing
-# from Debian, and makes three network namespaces for the kernel's packets, which it removes again.
+# from Debian, and makes four network namespaces for the kernel's packets, which it removes again.
 set -eu
 cd "$(dirname "$0")/../.."
 x86=scripts/x86.sh out=target/interop python=/usr/bin/python3
@@ -13,7 +13,7 @@ fail() {
 
 scripts/setup.sh
 missing=
-for pair in tshark:tshark dumpcap:tshark ip:iproute2 ethtool:ethtool ping:iputils-ping; do
+for pair in tshark:tshark dumpcap:tshark ip:iproute2 ethtool:ethtool ping:iputils-ping ip6tables:iptables; do
     command -v "${pair%:*}" >/dev/null && continue
     case "$missing " in *" ${pair#*:} "*) ;; *) missing="$missing ${pair#*:}" ;; esac
 done
@@ -32,19 +32,20 @@ $x86 cc -O2 -std=c11 -Wall -Wextra -Wpedantic -Werror -Iinclude tests/interop/ou
 # Two namespaces, a and b, and two ways between them: a pair of cards (net 99), and through a third namespace, m, where
 # our relay takes what comes at one card to the other (net 98). All cards leave the sums to the kernel. Those of the
 # first way take 4,000 bytes, so that the longest header between has room, and those of the second 1,280, as few as IPv6
-# allows. Routing headers of type 4 are for kernels that are told to take them.
-a=hifrostum-a-$$ b=hifrostum-b-$$ m=hifrostum-m-$$ server='' capture='' relay=''
+# allows. Routing headers of type 4 are for kernels that are told to take them. A fourth namespace, k, forwards between
+# two more cards of m: to prefixes inside by the first, and to all others by the second.
+a=hifrostum-a-$$ b=hifrostum-b-$$ m=hifrostum-m-$$ k=hifrostum-k-$$ server='' capture='' relay=''
 clean() {
     for process in $server $capture $relay; do
         kill "$process" 2>/dev/null || true
     done
-    for ns in $a $b $m; do
+    for ns in $a $b $m $k; do
         ip netns del "$ns" 2>/dev/null || true
     done
 }
 trap clean EXIT
 trap 'exit 1' INT TERM
-for ns in $a $b $m; do
+for ns in $a $b $m $k; do
     ip netns add "$ns"
 done
 ip link add card netns $a type veth peer name card netns $b
@@ -70,6 +71,26 @@ for ns in $a $b; do
     done
     number=$((number + 1))
 done
+ip netns exec $k sh -c 'echo 1 >/proc/sys/net/ipv6/conf/all/forwarding'
+for card in in out; do
+    ip link add $card mtu 4000 netns $m type veth peer name $card mtu 4000 netns $k
+    ip netns exec $m sh -c "echo 1 >/proc/sys/net/ipv6/conf/$card/disable_ipv6" # the ends themselves say nothing
+    start $m $card
+    start $k $card
+    ip -n $k neigh add fe80::1 lladdr "$(ip netns exec $m cat /sys/class/net/$card/address)" dev $card nud permanent
+done
+ip -n $k -6 route add fd00::/8 via fe80::1 dev in
+ip -n $k -6 route add default via fe80::1 dev out
+
+# Has k exchange prefixes on the way, if this kernel can.
+npt=none
+$python tests/interop/npt.py >$out/npt.rules
+for kind in nft legacy; do
+    ip netns exec $k ip6tables-$kind-restore <$out/npt.rules 2>$out/npt.log && npt=$k && break
+done
+if [ $npt = none ] && grep -q '^SNPT$' /proc/net/ip6_tables_targets; then
+    fail "this kernel can exchange prefixes, but doesn't take the rules ($out/npt.log)"
+fi
 
 # A capture ends by itself after a minute or 5,000 packets, whatever happens here, and so do server and relay.
 wait_for() { # FILE
@@ -94,14 +115,23 @@ heard() {
     wait $capture || true
     capture=
 }
-rm -f $out/ready $out/relaying
-ip netns exec $b timeout 240 $python tests/interop/talk.py serve >$out/ready &
+begin_relay() { # EDIT CAPTURES
+    rm -f $out/relaying
+    ip netns exec $m timeout 600 $python tests/interop/relay.py "$1" left right "$out/$2seen.pcap" "$out/$2sent.pcap" \
+        $x86 run $out/ours >$out/relaying &
+    relay=$!
+    wait_for $out/relaying
+}
+end_relay() {
+    kill $relay
+    wait $relay 2>/dev/null || true # which says that it was ended
+    relay=
+}
+rm -f $out/ready
+ip netns exec $b timeout 300 $python tests/interop/talk.py serve >$out/ready &
 server=$!
-ip netns exec $m timeout 240 $python tests/interop/relay.py left right $out/seen.pcap $out/sent.pcap \
-    $x86 run $out/ours >$out/relaying &
-relay=$!
 wait_for $out/ready
-wait_for $out/relaying
+begin_relay lower ''
 
 listen $out/kernel.pcap
 ip netns exec $a timeout 30 $python tests/interop/talk.py ask 10.99.0.2 fd99::2
@@ -134,9 +164,41 @@ for to in 10.98.0.2 fd98::2; do
     ! ip netns exec $a ping -q -n -c 1 -W 1 -t 1 -s 2600 $to >/dev/null ||
         fail "a ping with the lifetime 1 to $to was answered through the relay"
 done
-kill $relay $server
-wait $relay $server 2>/dev/null || true # which says of each that it was ended
-relay='' server=''
+end_relay
 
-# What has a trailing area or headers between goes from a to b in here, by the first way, to where the server was.
-$python tests/interop/interop.py $out/kernel.pcap $out/between.pcap $out/seen.pcap $out/sent.pcap $a $b $x86 run $out/ours
+# Through a relay that exchanges prefixes: a is the host of RFC 6296's example, and b knows it by its address outside.
+# The cards take 1,500 bytes again. What goes in fragments isn't answered, nor what has the word FFFF behind the prefix.
+host=fd01:203:405:1::1234 forbidden=fd01:203:405:ffff::1234 other=2001:db8:2::2
+for ns in $a $b; do
+    ip -n "$ns" link set far mtu 1500
+done
+for address in $host/64 $forbidden/64 fe80::1/64; do
+    ip -n $a addr add "$address" dev far nodad
+done
+for address in $other/64 fe80::2/64; do
+    ip -n $b addr add "$address" dev far nodad
+done
+ip -n $a -6 route add 2001:db8:2::/48 via fe80::2 dev far src $host
+ip -n $b -6 route add 2001:db8:1::/48 via fe80::1 dev far
+begin_relay exchange exchange-
+ip netns exec $a timeout 30 $python tests/interop/talk.py ask $other ||
+    fail "a datagram or a connection was not answered through the relay that exchanges prefixes"
+ip netns exec $a timeout 60 $python tests/interop/talk.py much $other ||
+    fail "a million bytes were not answered through the relay that exchanges prefixes"
+for size in 0 1 8 55 56 57 1000 1400; do
+    ip netns exec $a ping -q -n -c 2 -i 0.2 -W 2 -s $size $other >/dev/null ||
+        fail "a ping of $size bytes was not answered through the relay that exchanges prefixes"
+done
+! ip netns exec $a ping -q -n -c 1 -W 1 -s 2600 $other >/dev/null ||
+    fail "a ping in fragments was answered through the relay that exchanges prefixes"
+! ip netns exec $a ping -q -n -c 1 -W 1 -I $forbidden $other >/dev/null ||
+    fail "a ping with the word FFFF was answered through the relay that exchanges prefixes"
+end_relay
+kill $server
+wait $server 2>/dev/null || true
+server=
+
+# What has a trailing area or headers between, and what has its prefix exchanged, goes from a to b in here, by the first
+# way, to where the server was; and some of what the relay saw goes once more through one like it.
+begin_relay exchange again-
+$python tests/interop/interop.py $out $a $b $m $npt $x86 run $out/ours

@@ -3,6 +3,7 @@
 talk.py serve: answers each datagram and each connection with what it got, until it is ended; recorder.py's too.
 talk.py ask ADDRESS..: sends so much to each address, and sees that it comes back.
 talk.py large ADDRESS..: the same with datagrams that the kernel must cut into three fragments or more.
+talk.py much ADDRESS..: the same with a million bytes and more in one connection.
 """
 import random
 import selectors
@@ -15,6 +16,7 @@ PORT = 40404
 SO_NO_CHECK = 11  # Linux: send UDP over IPv4 without a sum
 SIZES = [0, 1, 2, 3, 4, 5, 7, 8, 15, 16, 31, 32, 63, 64, 100, 255, 256, 511, 512, 999, 1000, 1400]
 LARGE = [2600, 2601, 4096, 9999, 30000, 65507]  # the last is the longest that IPv4 has
+MUCH = [30001] * 35  # each is answered before the next, so that no buffer on the way is filled up
 
 
 def serve():
@@ -52,10 +54,10 @@ def datagrams(address, sizes):
                 assert s.recv(65536) == data
 
 
-def stream(address):
+def stream(address, sizes):
     rng = random.Random(2)
     with socket.create_connection((address, PORT), timeout=5) as s:
-        for size in SIZES[1:]:
+        for size in sizes:
             data = rng.randbytes(size)
             s.sendall(data)
             back = b""
@@ -70,10 +72,13 @@ def main():
     elif sys.argv[1] == "ask":
         for each in sys.argv[2:]:
             datagrams(each, SIZES)
-            stream(each)
-    else:
+            stream(each, SIZES[1:])
+    elif sys.argv[1] == "large":
         for each in sys.argv[2:]:
             datagrams(each, LARGE)
+    else:
+        for each in sys.argv[2:]:
+            stream(each, MUCH)
 
 
 if __name__ == "__main__":
