@@ -125,7 +125,7 @@ pub extern "C" fn hifrostum_join(
         fold: Fold(fold_b),
         length: length_b,
     };
-    let joined = sums::join(a, b);
+    let joined = folds::join(a, b);
     let v = joined.verdict;
     *fold = joined.sum.fold.0;
     *length = joined.sum.length;
@@ -137,8 +137,8 @@ pub extern "C" fn hifrostum_join(
 pub extern "C" fn hifrostum_field(bytes: &[u8]) -> u16
     ensures { λ r. ⌜ r ≡ fieldOf (Fold·fold (total (now (bytes .entry)))) ⌝ }
 {
-    let f = sums::fold_at(bytes, false);
-    let field = sums::field_of(f);
+    let f = folds::fold_at(bytes, false);
+    let field = folds::field_of(f);
     field.0
 }
 
@@ -149,6 +149,6 @@ pub extern "C" fn hifrostum_update(field: u16, old_fold: u16, new_fold: u16) -> 
 {
     let old = Fold(old_fold);
     let new = Fold(new_fold);
-    let after = sums::update(Field(field), old, new);
+    let after = folds::update(Field(field), old, new);
     after.0
 }

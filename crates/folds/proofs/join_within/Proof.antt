@@ -1,12 +1,12 @@
--- `sums::join_within` meets its contract.
+-- `folds::join_within` meets its contract.
 use mathlib.Core.Path.{refl, ap, _∙_}
 use Prim.Native.Nat.{_+_}
 use borrow.Author.Needs.{needs}
 use Rattle.sums.specs.Fold.{fold}
 use Rattle.sums.specs.Partials.{swapIf}
 use Rattle.sums.proofs.Joins.{partial-path}
-use Rattle.sums.proofs.join_within.Statement.{statement}
-use Rattle.sums.proofs.join_within.Tie as tie
+use Rattle.folds.proofs.join_within.Statement.{statement}
+use Rattle.folds.proofs.join_within.Tie as tie
 
 returns : tie.Need-returns
 returns c =

@@ -1,9 +1,0 @@
--- `sums::is_odd` meets its contract.
-use mathlib.Core.Path.{refl}
-use Rattle.sums.specs.Total.{odd}
-use Rattle.sums.proofs.is_odd.Statement.{statement}
-use Rattle.sums.proofs.is_odd.Tie as tie
-
-pub is-odd-spec : {M : Type 1} → statement M
-unfolding odd
-is-odd-spec = tie.close (tie.spec (λ c. refl))
