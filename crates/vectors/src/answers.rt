@@ -3,6 +3,7 @@ use crate::cases::Case;
 use crate::cases::LARGEST;
 use crate::cases::SUM;
 use crate::cases::WIDTH;
+use crate::cases::expected_size;
 use crate::cases::long;
 use crate::cases::quad;
 use crate::cases::within;
@@ -35,6 +36,7 @@ pub fn answer(case: Case, size: usize, buffer: &mut [u8], second: &[u8]) {
 fn answer_on(operation: u8, a: u64, buffer: &mut [u8], second: &[u8]) {
     match operation {
         operation::MEND..=operation::STRETCH => edited(operation, a, buffer, second),
+        operation::PREFIX => edited(operation, a, buffer, second),
         operation::CAPTURE => captured(buffer, a as usize),
         operation::CHAIN => chained(buffer, second),
         operation::UPDATE => updated(a),
@@ -56,8 +58,15 @@ fn edit_with(operation: u8, a: u64, buffer: &mut [u8], second: &[u8]) -> Verdict
         operation::MEND => mend::mend(buffer),
         operation::LIFETIME => edit::lower_lifetime(buffer),
         operation::ADDRESS => edit::set_address(buffer, (a % 4294967296) as u32, second),
+        operation::PREFIX => exchanged(a, buffer, second),
         _ => edit::set_stretch(buffer, a as usize, second),
     }
+}
+
+// Payload two is the expected prefix and then the new one.
+fn exchanged(a: u64, buffer: &mut [u8], second: &[u8]) -> Verdict {
+    let n = within(second, expected_size(a));
+    prefix::exchange_prefix(buffer, (a % 4294967296) as u32, &second[..n], &second[n..])
 }
 
 fn put_verdict(verdict: Verdict, end: &[u8]) {
@@ -139,14 +148,14 @@ fn put_partial(s: Partial) {
 fn computed(operation: u8, a: u64, buffer: &[u8]) {
     match operation {
         operation::JUDGE => put_verdict(judge::judge(buffer), b"\n"),
-        operation::PARTIAL => put_partial(sums::sum(buffer)),
-        operation::FOLD_AT => put(sums::fold_at(buffer, a % 2 == 1).0 as u64, b"\n"),
-        _ => put(sums::field_of(sums::sum(buffer).fold).0 as u64, b"\n"),
+        operation::PARTIAL => put_partial(folds::sum(buffer)),
+        operation::FOLD_AT => put(folds::fold_at(buffer, a % 2 == 1).0 as u64, b"\n"),
+        _ => put(folds::field_of(folds::sum(buffer).fold).0 as u64, b"\n"),
     }
 }
 
 fn updated(a: u64) {
-    let field = sums::update(
+    let field = folds::update(
         Field(bits(a, 4294967296)),
         Fold(bits(a, 65536)),
         Fold(bits(a, 1)),
@@ -157,7 +166,7 @@ fn updated(a: u64) {
 // The two partial sums in payload two, joined. A case without both is malformed, and doesn't come here.
 fn joined(second: &[u8]) {
     if 2 * SUM <= second.len() {
-        put_joined(sums::join(partial_at(second, 0), partial_at(second, SUM)));
+        put_joined(folds::join(partial_at(second, 0), partial_at(second, SUM)));
     }
 }
 

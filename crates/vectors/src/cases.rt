@@ -79,7 +79,7 @@ fn case_of(bytes: &[u8; HEAD]) -> Case {
 }
 
 fn malformed(case: Case) -> bool {
-    if operation::PRINTED < case.operation {
+    if operation::PREFIX < case.operation {
         return true;
     }
     if AGAIN < case.source {
@@ -100,7 +100,15 @@ fn malformed(case: Case) -> bool {
     if case.operation == operation::JOIN {
         return case.two != 2 * SUM;
     }
+    if case.operation == operation::PREFIX {
+        return case.two < expected_size(case.number);
+    }
     false
+}
+
+// The size of the expected prefix, in the upper half of the number of a prefix exchange.
+pub fn expected_size(number: u64) -> usize {
+    (number / 4294967296) as usize
 }
 
 fn wide(b: u8) -> u64

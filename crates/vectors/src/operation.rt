@@ -24,3 +24,5 @@ pub const UPDATE: u8 = 10;
 pub const JOIN: u8 = 11;
 
 pub const PRINTED: u8 = 12;
+
+pub const PREFIX: u8 = 13;

@@ -4,6 +4,7 @@ use crate::capture::{judge_capture, printed};
 use crate::edit::{lower_lifetime, set_address, set_stretch};
 use crate::judge::judge;
 use crate::mend::mend;
+use crate::prefix::exchange_prefix;
 use crate::sums::{self, field, fold, partial, total, total_at, Field, Fold, Partial};
 use crate::verdict::Verdict;
 use std::io::{self, Read};
@@ -21,12 +22,13 @@ pub const FIELD: u8 = 9;
 pub const UPDATE: u8 = 10;
 pub const JOIN: u8 = 11;
 pub const PRINTED: u8 = 12;
+pub const PREFIX: u8 = 13;
 
 /// The operations' names, by number.
 #[rustfmt::skip]
-pub const OPERATIONS: [&str; 13] = [
+pub const OPERATIONS: [&str; 14] = [
     "judge", "mend", "lower lifetime", "set address", "set stretch", "judge capture", "chain", "partial sum",
-    "fold at a position", "field", "update", "join", "printed lines",
+    "fold at a position", "field", "update", "join", "printed lines", "exchange prefix",
 ];
 
 /// Payload one is the buffer.
@@ -82,11 +84,12 @@ impl Case {
         }
         let (operation, source, number) = (head[0], head[1], whole(&head[2..10]));
         let (size_one, size_two) = (whole(&head[10..14]) as usize, whole(&head[14..18]) as usize);
-        let unknown = operation > PRINTED || source > AGAIN;
+        let unknown = operation > PREFIX || source > AGAIN;
         let too_large = size_one > LARGEST || size_two > LARGEST || (operation == CAPTURE && number > LARGEST as u64);
         let uneven = operation == CHAIN && size_two % NUMBER != 0;
         let not_two = operation == JOIN && size_two != 2 * SUM;
-        if unknown || too_large || uneven || not_two {
+        let no_prefix = operation == PREFIX && expected_size(number) > size_two;
+        if unknown || too_large || uneven || not_two || no_prefix {
             return Ok(Next::Bad);
         }
         let (one, two) = (take(input, size_one)?, take(input, size_two)?);
@@ -95,6 +98,22 @@ impl Case {
         }
         Ok(Next::Case(Case { operation, source, number, one, two }))
     }
+
+    /// Of a prefix exchange the side, the expected prefix and the new one.
+    pub fn exchange(&self) -> (u32, &[u8], &[u8]) {
+        let (expected, new) = self.two.split_at(expected_size(self.number));
+        (self.number as u32, expected, new)
+    }
+}
+
+/// The number and payload two of a prefix exchange.
+pub fn exchange_payload(side: u32, expected: &[u8], new: &[u8]) -> (u64, Vec<u8>) {
+    ((expected.len() as u64) << 32 | u64::from(side), [expected, new].concat())
+}
+
+/// The size of the expected prefix, by the number of a prefix exchange.
+fn expected_size(number: u64) -> usize {
+    (number >> 32) as usize
 }
 
 /// The next bytes of the input, fewer only at its end.
@@ -159,6 +178,10 @@ impl Desk {
             JOIN => {
                 let (a, b) = operands(two);
                 judged(sums::join(a, b))
+            }
+            PREFIX => {
+                let (side, expected, new) = case.exchange();
+                self.edited(|packet| exchange_prefix(packet, side, expected, new))
             }
             _ => printed(&self.buffer),
         }

@@ -5,6 +5,7 @@ mod captures;
 mod corners;
 mod lifetimes;
 mod packets;
+pub mod prefixes;
 pub mod stops;
 mod sums;
 mod trailing;
@@ -16,6 +17,16 @@ use crate::draft::{Shape, KINDS};
 use crate::random::Random;
 use std::io::{self, Write};
 
+/// Which calls are made of a packet that is tried with each.
+#[derive(Clone, Copy, PartialEq)]
+enum Calls {
+    /// All but the prefix exchange: those of older stored cases, which stay the same bytes.
+    Older,
+    /// The prefix exchange alone, on a packet that is judged.
+    Prefix,
+    All,
+}
+
 /// Makes cases one after the other, from one run of random numbers.
 struct Maker {
     random: Random,
@@ -26,20 +37,22 @@ struct Maker {
     /// What shapes are drawn. Those of older stored cases have no trailing area, or nothing between: they stay the same
     /// bytes.
     shapes: fn((u8, u8), usize, &mut Random) -> Shape,
+    calls: Calls,
 }
 
 impl Maker {
     fn new(seed: u64, cover: Option<Cover>) -> Self {
-        Maker { random: Random(seed), bytes: Vec::new(), count: 0, desk: Desk::default(), cover, shapes: Shape::any }
+        let (random, desk) = (Random(seed), Desk::default());
+        Maker { random, bytes: Vec::new(), count: 0, desk, cover, shapes: Shape::any, calls: Calls::All }
     }
 
     fn add(&mut self, case: Case) {
         self.bytes.extend(case.to_bytes());
         self.count += 1;
+        self.desk.lay(&case);
+        let before = self.desk.buffer.clone();
+        let answer = self.desk.answer(&case);
         if let Some(cover) = &mut self.cover {
-            self.desk.lay(&case);
-            let before = self.desk.buffer.clone();
-            let answer = self.desk.answer(&case);
             cover.note(&case, &before, &self.desk.buffer, &answer);
         }
     }
@@ -57,6 +70,12 @@ impl Maker {
     /// A case on what the case before left.
     fn left(&mut self, operation: u8, number: u64, two: &[u8]) {
         self.add(Case { operation, source: LEFT, number, one: Vec::new(), two: two.to_vec() });
+    }
+
+    /// A prefix exchange on the last buffer given, or on what the case before left.
+    fn exchange(&mut self, source: u8, side: u32, expected: &[u8], new: &[u8]) {
+        let (number, two) = exchange_payload(side, expected, new);
+        self.add(Case { operation: PREFIX, source, number, one: Vec::new(), two });
     }
 
     fn any_kind(&mut self) -> (u8, u8) {
@@ -78,7 +97,7 @@ impl Maker {
 /// The stored cases and their number; an error if they don't reach what they must.
 pub fn stored(seed: u64) -> Result<(Vec<u8>, u64), String> {
     let mut maker = Maker::new(seed, Some(Cover::default()));
-    maker.shapes = Shape::any_whole;
+    (maker.shapes, maker.calls) = (Shape::any_whole, Calls::Older);
     maker.sums();
     maker.packets();
     maker.corners();
@@ -91,6 +110,8 @@ pub fn stored(seed: u64) -> Result<(Vec<u8>, u64), String> {
     maker.trailing_areas();
     maker.headers_between();
     maker.stopped_walks();
+    (maker.shapes, maker.calls) = (Shape::any, Calls::Prefix);
+    maker.prefixes();
     if let Some(cover) = &maker.cover {
         cover.check()?;
     }
@@ -101,7 +122,7 @@ pub fn stored(seed: u64) -> Result<(Vec<u8>, u64), String> {
 pub fn fuzz(seed: u64, count: u64, out: &mut impl Write) -> io::Result<()> {
     let mut maker = Maker::new(seed, None);
     while maker.count < count {
-        match maker.random.between(1, 78) {
+        match maker.random.between(1, 92) {
             1 => maker.any_corner(),
             2 => maker.any_blank(),
             3..=7 => maker.any_sums(),
@@ -115,6 +136,7 @@ pub fn fuzz(seed: u64, count: u64, out: &mut impl Write) -> io::Result<()> {
             39..=46 => maker.any_lifetimes(),
             47..=54 => maker.any_trailing(),
             55..=66 => maker.any_between(),
+            67..=80 => maker.any_prefixes(),
             _ => maker.any_faults(),
         }
         out.write_all(&maker.bytes)?;

@@ -2,6 +2,7 @@
 
 mod between;
 mod lifetimes;
+mod prefix;
 mod trailing;
 
 use crate::answer::*;
@@ -11,6 +12,7 @@ use crate::edit;
 use crate::judge::{judge, Rule, RULES};
 use crate::mend::{self, fresh_header_field, fresh_message_field};
 use crate::packet::{View, HEADER_FIELD, ICMP, ICMPV6, TABLE, TCP, UDP};
+use crate::prefix as exchange;
 use crate::sums::{passes, Field};
 use crate::updates::{corner_triples, updated_fields};
 use crate::verdict::*;
@@ -19,8 +21,8 @@ use std::collections::BTreeSet;
 #[derive(Default)]
 pub struct Cover {
     /// The verdicts of each operation, what an edit makes of the fields that it updates and of the verdict, what the
-    /// lifetime edit changes, what lies behind a datagram, and what stops the walk; these must be those the paper makes
-    /// possible, and no others.
+    /// lifetime edit changes, what lies behind a datagram, what stops the walk, and what a prefix exchange leaves;
+    /// these must be those the paper makes possible, and no others.
     exact: BTreeSet<String>,
     /// All else that was reached; there may be more than is wanted.
     reached: BTreeSet<String>,
@@ -37,7 +39,7 @@ impl Cover {
         let first = answer.split([' ', '\n']).next().and_then(|word| word.parse().ok());
         self.reach(OPERATIONS[case.operation as usize].to_string());
         match case.operation {
-            JUDGE..=STRETCH => self.note_packet(case, before, after, first.unwrap_or(u8::MAX)),
+            JUDGE..=STRETCH | PREFIX => self.note_packet(case, before, after, first.unwrap_or(u8::MAX)),
             CAPTURE | PRINTED => self.note_capture(case, before, answer),
             CHAIN => self.note_chain(case, before, answer),
             UPDATE => self.note_update(case, answer),
@@ -88,12 +90,14 @@ impl Cover {
         if let (LEFT, Some((before, its_verdict))) = (case.source, self.last) {
             self.reach(format!("{}'s {its_verdict}, then {operation}: {verdict}", OPERATIONS[before as usize]));
         }
-        self.note_datagram(case, &view, &View::new(after), verdict);
+        if case.operation != PREFIX || view.family == 6 {
+            self.note_datagram(case, &view, &View::new(after), verdict);
+        }
         self.note_between(case, &view, &View::new(after), verdict);
         self.last = Some((case.operation, verdict));
         if verdict != GOOD && before != after {
             self.exact.insert(format!("{operation} refused with {verdict}: bytes changed"));
-        } else if verdict == GOOD && (LIFETIME..=STRETCH).contains(&case.operation) {
+        } else if verdict == GOOD && ![JUDGE, MEND].contains(&case.operation) {
             let (was, is) = (judge(before), judge(after));
             self.exact.insert(format!("{operation} of IPv{}, verdict {was}: {is} afterwards", view.family));
         }
@@ -106,6 +110,7 @@ impl Cover {
             LIFETIME => self.note_lifetime(case, &view, &View::new(after), verdict),
             ADDRESS => self.note_address(case, &view, after, verdict),
             STRETCH => self.note_stretch(case, &view, after, verdict),
+            PREFIX => self.note_exchange(case, &view, &View::new(after), verdict),
             _ => {}
         }
     }
@@ -305,6 +310,16 @@ impl Cover {
     }
 }
 
+/// What differs after a call, each place by its name.
+fn differing(before: &View, after: &View, name: impl Fn(usize) -> &'static str) -> String {
+    let places = (0..before.bytes.len()).filter(|place| before.byte(*place) != after.byte(*place));
+    let names: BTreeSet<&str> = places.map(name).collect();
+    if names.is_empty() {
+        return "nothing".to_string();
+    }
+    names.into_iter().collect::<Vec<_>>().join(" and ")
+}
+
 /// Two bytes, or more of them.
 fn size_name(length: usize) -> String {
     match length {
@@ -344,15 +359,21 @@ fn kind_name((family, protocol): (u8, u8)) -> String {
     format!("{name} in IPv{family}")
 }
 
+/// The calls on packets of a family. The prefix exchange is IPv6's.
+fn calls_of(family: u8) -> impl Iterator<Item = u8> {
+    (JUDGE..=STRETCH).chain((family == 6).then_some(PREFIX))
+}
+
 /// The rules an operation looks at.
-fn looked_at(operation: u8) -> impl Iterator<Item = &'static Rule> {
+fn looked_at(operation: u8) -> Box<dyn Iterator<Item = &'static Rule>> {
     let looked_at: fn(&Rule) -> bool = match operation {
         JUDGE => |_| true,
         MEND => mend::refused,
         LIFETIME => edit::refused_lifetime,
+        PREFIX => return Box::new(exchange::rules()),
         _ => edit::refused,
     };
-    RULES.iter().filter(move |rule| looked_at(rule))
+    Box::new(RULES.iter().filter(move |rule| looked_at(rule)))
 }
 
 /// Every refusal of a case that applies by itself, in order.
@@ -363,6 +384,10 @@ fn rules_that_apply(case: &Case, view: &View) -> Vec<Named> {
         LIFETIME => vec![edit::spent(view)],
         ADDRESS => vec![edit::no_side(case.number), edit::address_misfit(view, &case.two)],
         STRETCH => vec![edit::stretch_misfit(view, case.number, &case.two), edit::blank(view, case.number, &case.two)],
+        PREFIX => {
+            let (side, expected, new) = case.exchange();
+            exchange::misfits(view, side, expected, new).to_vec()
+        }
         _ => vec![],
     };
     applying.extend(own_rules(case.operation).iter().zip(own).filter(|(_, applies)| *applies).map(|(rule, _)| *rule));
@@ -375,6 +400,13 @@ fn own_rules(operation: u8) -> &'static [Named] {
         LIFETIME => &[("spent", SPENT)],
         ADDRESS => &[("side", PLACE), ("address length", PLACE)],
         STRETCH => &[("stretch", PLACE), ("blank", BLANK)],
+        PREFIX => &[
+            ("side", PLACE),
+            ("expected length", PLACE),
+            ("new length", PLACE),
+            ("expected prefix", PLACE),
+            ("word", PLACE),
+        ],
         _ => &[],
     }
 }
@@ -401,6 +433,10 @@ fn in_family(rule: &str, family: u8) -> bool {
 /// The rules of the walk. Of these one applies at most; which, the walk decides.
 const WALK: [&str; 5] = ["fragment header", "late hop-by-hop", "ninth header", "past the payload", "segments left"];
 
+/// What can be wrong besides where there are no bytes.
+const WITHOUT_BYTES: [&str; 8] =
+    ["version", "spent", "side", "address length", "stretch", "expected length", "new length", "expected prefix"];
+
 /// Whether two rules can apply at once. Without bytes there is nothing else to be wrong but the version and what
 /// the caller gives, and without a whole fixed header nothing behind it. The protocols of the later rules are in the
 /// table. Only ICMP can be blank.
@@ -408,7 +444,7 @@ fn can_meet(a: &str, b: &str) -> bool {
     match a {
         _ if WALK.contains(&a) && WALK.contains(&b) => false,
         "under 20 or 40" => !["late hop-by-hop", "ninth header", "segments left"].contains(&b),
-        "no bytes" => ["version", "spent", "side", "address length", "stretch"].contains(&b),
+        "no bytes" => WITHOUT_BYTES.contains(&b),
         "protocol" => !["TCP or UDP length", "zero in IPv6", "zero in IPv4", "blank"].contains(&b),
         "TCP or UDP length" => b != "blank",
         _ => true,
@@ -439,6 +475,7 @@ fn wanted_exactly() -> BTreeSet<String> {
     wanted.extend(lifetimes::wanted_exactly());
     wanted.extend(trailing::wanted_exactly());
     wanted.extend(between::wanted_exactly());
+    wanted.extend(prefix::wanted_exactly());
     for operation in [ADDRESS, STRETCH] {
         let name = OPERATIONS[operation as usize];
         for (family, verdicts) in [(4, &[GOOD, UNSUMMED, HEADER_SUM, MESSAGE_SUM][..]), (6, &[GOOD, MESSAGE_SUM])] {
@@ -483,6 +520,7 @@ fn wanted_else() -> BTreeSet<String> {
     wanted.extend(lifetimes::wanted());
     wanted.extend(trailing::wanted());
     wanted.extend(between::wanted());
+    wanted.extend(prefix::wanted());
     wanted.extend(wanted_captures());
     wanted.extend(wanted_sums());
     wanted
@@ -492,17 +530,19 @@ fn wanted_pairs() -> Vec<String> {
     let mut wanted = Vec::new();
     for operation in JUDGE..=STRETCH {
         for family in [4, 6] {
-            let rules: Vec<Named> = looked_at(operation)
-                .map(|rule| (rule.name, rule.number))
-                .chain(own_rules(operation).iter().copied())
-                .filter(|rule| in_family(rule.0, family))
-                .collect();
             let name = OPERATIONS[operation as usize];
-            let meeting = pairs(&rules).into_iter().filter(|(a, b)| can_meet(a.0, b.0));
+            let meeting = meeting(operation, family).into_iter();
             wanted.extend(meeting.map(|(a, b)| format!("{name} of IPv{family}: {} before {}", a.0, b.0)));
         }
     }
     wanted
+}
+
+/// Every two refusals of an operation that can apply at once in a family.
+fn meeting(operation: u8, family: u8) -> Vec<(Named, Named)> {
+    let rules = looked_at(operation).map(|rule| (rule.name, rule.number)).chain(own_rules(operation).iter().copied());
+    let rules: Vec<Named> = rules.filter(|rule| in_family(rule.0, family)).collect();
+    pairs(&rules).into_iter().filter(|(a, b)| can_meet(a.0, b.0)).collect()
 }
 
 fn wanted_lengths() -> Vec<String> {

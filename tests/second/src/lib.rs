@@ -13,6 +13,7 @@ pub mod judge;
 pub mod mend;
 pub mod mistakes;
 pub mod packet;
+pub mod prefix;
 pub mod random;
 pub mod sums;
 pub mod updates;

@@ -1,5 +1,7 @@
-// Mistakes about where a UDP datagram ends, and about the headers between. They lead to other sums, which the cases must
-// tell from the right one.
+// Mistakes about where a UDP datagram ends, and about the headers between. They lead to other sums, which the cases
+// must tell from the right one. Those about the prefix exchange are in mistakes/prefix.rs.
+
+pub mod prefix;
 
 use crate::draft::write_word;
 use crate::mend::computed_message_field;

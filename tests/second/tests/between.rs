@@ -9,6 +9,7 @@ use second::judge::judge;
 use second::mend::{mend, write_field};
 use second::mistakes::{looks_like_a_message, BETWEEN_MISTAKES};
 use second::packet::{View, ICMPV6, TCP, UDP};
+use second::prefix::{beginning, exchange_prefix};
 use second::random::Random;
 
 const SIX: [(u8, u8); 3] = [(6, TCP), (6, UDP), (6, ICMPV6)];
@@ -25,21 +26,30 @@ fn eight(next: u8) -> [u8; 8] {
     [next, 0, 0, 0, 0, 0, 0, 0]
 }
 
-/// The five calls' answers; a stretch that is empty, and a refused call changes nothing.
+/// The prefix of an address exchanged for another.
+fn exchange(packet: &mut [u8], side: u32, new: &[u8]) -> u8 {
+    exchange_prefix(packet, side, &beginning(packet, side, 6), new)
+}
+
+/// Five calls' answers, with a stretch that is empty; a sixth, the prefix exchange, answers what the address edit does.
+/// A refused call changes nothing.
 fn answers(packet: &[u8]) -> [u8; 5] {
-    let calls: [fn(&mut [u8]) -> u8; 5] = [
+    let calls: [fn(&mut [u8]) -> u8; 6] = [
         |packet| judge(packet),
         mend,
         |packet| set_address(packet, 0, &[7; 16]),
         |packet| set_stretch(packet, 0, &[]),
         lower_lifetime,
+        |packet| exchange(packet, 1, &[7; 6]),
     ];
-    calls.map(|call| {
+    let [judged, mended, addressed, stretched, lowered, exchanged] = calls.map(|call| {
         let mut after = packet.to_vec();
         let answer = call(&mut after);
         assert!(answer == 0 || after == packet);
         answer
-    })
+    });
+    assert_eq!(exchanged, addressed);
+    [judged, mended, addressed, stretched, lowered]
 }
 
 /// A packet with one to eight headers between, good or with a fault behind them; it may be stopped there.
@@ -77,10 +87,11 @@ fn any_payload(random: &mut Random) -> Vec<u8> {
 /// Any call that may write: its verdict.
 fn any_call(packet: &mut [u8], random: &mut Random) -> u8 {
     let body = View::new(packet).body_length();
-    match random.between(0, 4) {
+    match random.between(0, 5) {
         0 => mend(packet),
         1 => lower_lifetime(packet),
         2 => set_address(packet, random.between(0, 2) as u32, &random.contents(16)),
+        3 => exchange(packet, random.between(0, 1) as u32, &random.contents(6)),
         _ => {
             let length = random.between(0, body.min(9));
             set_stretch(packet, random.between(0, body + 1 - length) as u64, &random.contents(length))
@@ -383,9 +394,10 @@ fn no_edit_changes_what_the_walk_reads() {
         let verdict = judge(&packet);
         for _ in 0..5 {
             let before = packet.clone();
-            let answer = match random.between(0, 2) {
+            let answer = match random.between(0, 3) {
                 0 => lower_lifetime(&mut packet),
                 1 => set_address(&mut packet, random.between(0, 1) as u32, &random.contents(16)),
+                2 => exchange(&mut packet, random.between(0, 1) as u32, &random.contents(6)),
                 _ => {
                     let body = View::new(&packet).body_length();
                     let length = random.between(0, body.min(9));

@@ -5,6 +5,7 @@ use second::edit::{lower_lifetime, set_address, set_stretch};
 use second::judge::judge;
 use second::mend::mend;
 use second::packet::{View, ICMP, TCP, UDP};
+use second::prefix::{beginning, exchange_prefix};
 use second::random::Random;
 use second::sums::*;
 
@@ -20,11 +21,15 @@ fn any_packet(random: &mut Random) -> ((u8, u8), Vec<u8>) {
 
 /// A random edit; answers its verdict.
 fn any_edit(packet: &mut [u8], family: u8, random: &mut Random) -> u8 {
-    match random.between(0, 2) {
+    match random.between(0, 3) {
         0 => lower_lifetime(packet),
         1 => {
             let length = if family == 4 { 4 } else { 16 };
             set_address(packet, random.between(0, 2) as u32, &random.contents(length))
+        }
+        2 => {
+            let side = random.between(0, 2) as u32;
+            exchange_prefix(packet, side, &beginning(packet, side, 6), &random.contents(6))
         }
         _ => {
             let (place, length) = (random.between(0, 20), random.between(0, 20));

@@ -1,12 +1,16 @@
 // The stored cases and answers are those of seed 1; the case format is read as CASES.md says.
 
-use second::answer::{Case, Desk, Next, ADDRESS, JUDGE, LEFT, LIFETIME, MEND, STRETCH};
+use second::answer::{digest, exchange_payload, Case, Desk, Next};
+use second::answer::{ADDRESS, JUDGE, LEFT, LIFETIME, MEND, PREFIX, STRETCH};
 use second::cases;
+use second::cases::prefixes::CORNER_WORDS;
 use second::judge::{first, judge};
+use second::mistakes::prefix::{Asked, PREFIX_MISTAKES};
 use second::mistakes::{at_40, BETWEEN_MISTAKES, MISTAKES};
 use second::packet::View;
+use second::prefix::address_place;
 use second::updates::updated_fields;
-use std::collections::BTreeMap;
+use std::collections::{BTreeMap, BTreeSet};
 use std::fs;
 
 /// The answers to a file of cases, and whether it ends well.
@@ -47,7 +51,7 @@ fn fuzz_cases_are_well_formed_and_the_same_from_the_same_seed() {
 #[test]
 fn fuzz_reaches_long_chains_and_both_answers_of_a_join() {
     let mut bytes = Vec::new();
-    cases::fuzz(9, 60_000, &mut bytes).unwrap();
+    cases::fuzz(9, 120_000, &mut bytes).unwrap();
     let (mut input, mut desk, mut long, mut joins) = (&bytes[..], Desk::default(), 0, [0, 0]);
     while let Next::Case(case) = Case::read(&mut input).unwrap() {
         desk.lay(&case);
@@ -64,7 +68,7 @@ fn fuzz_reaches_long_chains_and_both_answers_of_a_join() {
 #[test]
 fn fuzz_reaches_each_update_where_equation_3_answers_ffff() {
     let mut bytes = Vec::new();
-    cases::fuzz(9, 30_000, &mut bytes).unwrap();
+    cases::fuzz(9, 40_000, &mut bytes).unwrap();
     let (mut input, mut desk, mut alone, mut edits) = (&bytes[..], Desk::default(), 0, BTreeMap::new());
     while let Next::Case(case) = Case::read(&mut input).unwrap() {
         desk.lay(&case);
@@ -86,7 +90,7 @@ fn fuzz_reaches_each_update_where_equation_3_answers_ffff() {
 #[test]
 fn fuzz_reaches_lifetimes_of_packets_that_the_other_edits_refuse() {
     let mut bytes = Vec::new();
-    cases::fuzz(9, 60_000, &mut bytes).unwrap();
+    cases::fuzz(9, 90_000, &mut bytes).unwrap();
     let (mut input, mut desk, mut last, mut met) = (&bytes[..], Desk::default(), String::new(), BTreeMap::new());
     while let Next::Case(case) = Case::read(&mut input).unwrap() {
         desk.lay(&case);
@@ -148,7 +152,7 @@ fn fuzz_reaches_trailing_areas() {
 #[test]
 fn fuzz_reaches_headers_between() {
     let mut bytes = Vec::new();
-    cases::fuzz(9, 120_000, &mut bytes).unwrap();
+    cases::fuzz(9, 150_000, &mut bytes).unwrap();
     let (mut input, mut desk) = (&bytes[..], Desk::default());
     let (mut walked, mut called, mut stopped) = (BTreeMap::new(), BTreeMap::new(), BTreeMap::new());
     let (mut in_one, mut in_two, mut mistaken) = (BTreeMap::new(), BTreeMap::new(), BTreeMap::new());
@@ -190,6 +194,46 @@ fn fuzz_reaches_headers_between() {
     assert!(mistaken.len() == 6 && mistaken.values().all(|count| *count >= 10), "{mistaken:?}");
 }
 
+/// Prefixes of each protocol exchanged on both sides, behind headers and not, in packets that are good and that aren't;
+/// every verdict; words at the corners; and exchanges that each mistake makes otherwise.
+#[test]
+fn fuzz_reaches_prefixes() {
+    let mut bytes = Vec::new();
+    cases::fuzz(9, 120_000, &mut bytes).unwrap();
+    let (mut input, mut desk) = (&bytes[..], Desk::default());
+    let (mut done, mut refused, mut words) = (BTreeMap::new(), BTreeMap::new(), BTreeMap::new());
+    let mut told = [0; PREFIX_MISTAKES.len()];
+    while let Next::Case(case) = Case::read(&mut input).unwrap() {
+        desk.lay(&case);
+        let before = desk.buffer.clone();
+        let (view, answer) = (View::new(&before), desk.answer(&case));
+        if case.operation != PREFIX {
+            continue;
+        }
+        let verdict: u8 = answer.trim_end().split(' ').next().unwrap().parse().unwrap();
+        let (side, expected, new) = case.exchange();
+        *refused.entry((view.family == 4, verdict)).or_insert(0) += 1;
+        if verdict == 0 {
+            let place = address_place(side) + 6;
+            *done.entry((view.protocol(), side, judge(&before), view.walk.headers.is_empty())).or_insert(0) += 1;
+            *words.entry([view.word(place), View::new(&desk.buffer).word(place)]).or_insert(0) += 1;
+        }
+        let asked = Asked { before: view.clone(), side, expected, new, right: (verdict, desk.buffer.clone()) };
+        for (count, mistake) in told.iter_mut().zip(&PREFIX_MISTAKES).filter(|(count, _)| **count < 20) {
+            *count += u32::from((mistake.outcome)(&asked) != asked.right);
+        }
+    }
+    assert!(done.len() == 24 && done.values().all(|count| *count >= 20), "{done:?}");
+    let verdicts =
+        [(true, 3), (false, 0), (false, 2), (false, 3), (false, 4), (false, 6), (false, 7), (false, 8), (false, 10)];
+    assert!(refused.keys().eq(&verdicts.into_iter().collect::<BTreeSet<_>>()), "{refused:?}");
+    assert!(refused.values().all(|count| *count >= 50), "{refused:?}");
+    for two in CORNER_WORDS.into_iter().flat_map(|was| CORNER_WORDS.map(|is| [was, is])) {
+        assert!(words.get(&two) >= Some(&5), "{two:04X?}");
+    }
+    assert!(told.iter().all(|count| *count == 20), "{told:?}");
+}
+
 #[test]
 fn sources_and_malformed_cases() {
     let case = |operation: u8, source: u8, one: &[u8]| {
@@ -198,7 +242,7 @@ fn sources_and_malformed_cases() {
     let good = [case(9, 0, &[0xAB]), case(9, 1, &[]), case(9, 2, &[])].concat();
     assert_eq!(answers(&good), ("21759\n".repeat(3), true));
     assert_eq!(answers(&good[..good.len() - 1]), ("21759\n".repeat(2), false));
-    assert_eq!(answers(&case(13, 0, &[])), (String::new(), false));
+    assert_eq!(answers(&case(14, 0, &[])), (String::new(), false));
     assert_eq!(answers(&case(0, 3, &[])), (String::new(), false));
     let mut cut = case(0, 0, &[1, 2]);
     cut.pop();
@@ -213,6 +257,28 @@ fn sources_and_malformed_cases() {
     for size in [1, 2, 3, 5, 6, 7, 9] {
         assert_eq!(answers(&chain(&vec![0; size])), (String::new(), false));
     }
+}
+
+/// The example of RFC 6296; a case whose expected prefix is longer than payload two is malformed.
+#[test]
+fn prefix_exchanges_as_the_format_has_them() {
+    let (inside, outside) = ([0xFD, 1, 2, 3, 4, 5], [0x20, 1, 0xD, 0xB8, 0, 1]);
+    let head = [0x60, 0, 0, 0, 0, 4, 58, 64];
+    let one = [&head[..], &[0; 16], &inside, &[0, 1, 0, 0, 0, 0, 0, 0, 0x12, 0x34], &[0x80, 0, 0, 0]].concat();
+    let after = [&head[..], &[0; 16], &outside, &[0xD5, 0x50, 0, 0, 0, 0, 0, 0, 0x12, 0x34], &[0x80, 0, 0, 0]].concat();
+    let (number, two) = exchange_payload(1, &inside, &outside);
+    assert_eq!((number, two.len()), (0x0000_0006_0000_0001, 12));
+    let case = |number, two: &[u8]| {
+        Case { operation: PREFIX, source: 0, number, one: one.clone(), two: two.to_vec() }.to_bytes()
+    };
+    assert_eq!(answers(&case(number, &two)), (format!("0 {}\n", digest(&after)), true));
+    for (size, side) in [(5, 1), (7, 1), (12, 1), (0, 1), (6, 0), (6, 2), (6, u64::from(u32::MAX))] {
+        assert_eq!(answers(&case(size << 32 | side, &two)), (format!("10 {}\n", digest(&one)), true));
+    }
+    for size in [13, 0xFFFF_FFFF] {
+        assert_eq!(answers(&case(size << 32, &two)), (String::new(), false));
+    }
+    assert_eq!(answers(&case(1 << 32, &[])), (String::new(), false));
 }
 
 #[test]

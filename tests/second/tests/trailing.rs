@@ -9,6 +9,7 @@ use second::judge::judge;
 use second::mend::{fresh_header_field, mend, write_field};
 use second::mistakes::MISTAKES;
 use second::packet::{View, HEADER_FIELD, UDP};
+use second::prefix::{beginning, exchange_prefix};
 use second::random::Random;
 
 const KINDS: [(u8, u8); 2] = [(4, UDP), (6, UDP)];
@@ -35,10 +36,14 @@ fn any_trailing(random: &mut Random) -> Vec<u8> {
 /// Any edit, done or refused: its verdict.
 fn any_edit(packet: &mut [u8], random: &mut Random) -> u8 {
     let (address, body) = (View::new(packet).address_length(), View::new(packet).body_length());
-    match random.between(0, 3) {
+    match random.between(0, 4) {
         0 => lower_lifetime(packet),
         1 => set_address(packet, random.between(0, 2) as u32, &random.contents(address)),
         2 => {
+            let side = random.between(0, 1) as u32;
+            exchange_prefix(packet, side, &beginning(packet, side, 6), &random.contents(6))
+        }
+        3 => {
             let length = random.between(0, body);
             set_stretch(packet, random.between(0, body - length) as u64, &random.contents(length))
         }

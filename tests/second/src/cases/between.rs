@@ -1,6 +1,6 @@
 // Cases on messages behind IPv6's headers between: what may stand there, and sums that a mistake about it leads to.
 
-use super::Maker;
+use super::{Calls, Maker};
 use crate::answer::*;
 use crate::between::{length_of, lists_of_numbers, put_between, Link};
 use crate::draft::{balance_message, between, declare, faults_of, refresh, spoil, write_word, Fault, Shape};
@@ -62,8 +62,21 @@ impl Maker {
         self.behind(kind, &links)
     }
 
-    /// A packet judged, mended and edited in each way, with what would fit a message.
+    /// A packet judged, mended and edited in each way, with what would fit a message, as far as these calls are made
+    /// now.
     pub fn each_call(&mut self, packet: &[u8]) {
+        if self.calls == Calls::Prefix {
+            self.given(JUDGE, 0, packet, &[]);
+        } else {
+            self.each_older_call(packet);
+        }
+        if self.calls != Calls::Older {
+            self.exchange_of_one(packet);
+        }
+    }
+
+    /// All but the prefix exchange.
+    fn each_older_call(&mut self, packet: &[u8]) {
         let (address, new) = (self.random.contents(16), self.random.contents(2));
         let place = View::new(packet).body_length().saturating_sub(2) as u64;
         self.given(JUDGE, 0, packet, &[]);

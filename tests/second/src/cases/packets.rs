@@ -2,7 +2,7 @@
 // of edits, long packets and rubbish.
 
 use super::sums::big_endian;
-use super::Maker;
+use super::{Calls, Maker};
 use crate::answer::*;
 use crate::draft::{declare, faults_of, refresh, spoil, Fault, Shape, KINDS, PASSED_OVER};
 use crate::packet::{View, ICMP, ICMPV6, TCP, UDP};
@@ -74,13 +74,24 @@ impl Maker {
         (place as u64, self.random.contents(length))
     }
 
-    /// A packet judged, mended, and edited in every way that is done or refused. Stretches go to the message's end, so
-    /// that some reach into a trailing area.
+    /// A packet judged, mended, and edited in every way that is done or refused, as far as these calls are made now.
     pub fn every_operation(&mut self, packet: &[u8], family: u8) {
+        self.given(JUDGE, 0, packet, &[]);
+        if self.calls != Calls::Prefix {
+            self.every_older_operation(packet, family);
+        }
+        match self.calls {
+            Calls::Older => {}
+            Calls::All if family == 4 => self.exchange_of_one(packet),
+            _ => self.exchanges(packet),
+        }
+    }
+
+    /// All but the prefix exchange. Stretches go to the message's end, so that some reach into a trailing area.
+    fn every_older_operation(&mut self, packet: &[u8], family: u8) {
         let view = View::read_as(packet, family);
         let body = view.body_length() + view.trailing_length();
         let (right, wrong) = if family == 4 { (4, 16) } else { (16, 4) };
-        self.given(JUDGE, 0, packet, &[]);
         self.again(MEND, 0, &[]);
         self.again(LIFETIME, 0, &[]);
         for (side, length) in [(0, right), (1, right), (2, right), (1, wrong)] {
@@ -214,7 +225,8 @@ impl Maker {
     /// One more call on what is left, done or refused.
     pub fn step(&mut self, body: usize, family: u8) {
         let (right, wrong) = if family == 4 { (4, 16) } else { (16, 4) };
-        match self.random.between(0, 11) {
+        let most = if self.calls == Calls::Older { 11 } else { 13 };
+        match self.random.between(0, most) {
             0 | 1 => self.left(LIFETIME, 0, &[]),
             2..=4 => {
                 let (side, length) = self.random.pick(&[(0, right), (0, right), (1, right), (2, right), (0, wrong)]);
@@ -230,6 +242,7 @@ impl Maker {
                 self.left(STRETCH, (body + 1).saturating_sub(new.len()) as u64, &new);
             }
             7 if self.random.once_in(3) => self.left(MEND, 0, &[]),
+            12 | 13 => self.any_exchange(),
             _ => {
                 let (place, new) = self.stretch(body);
                 self.left(STRETCH, place, &new);
@@ -360,6 +373,9 @@ impl Maker {
         self.again(ADDRESS, 0, &address);
         let (place, new) = self.stretch(4);
         self.again(STRETCH, place, &new);
+        if self.calls != Calls::Older {
+            self.exchanges(&packet);
+        }
     }
 
     pub fn any_rubbish(&mut self) {

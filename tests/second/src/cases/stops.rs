@@ -8,6 +8,7 @@ use crate::answer::*;
 use crate::between::{length_of, put_between, Link};
 use crate::draft::{spoil, write_word, Fault, Shape};
 use crate::packet::{View, TCP, UDP};
+use crate::prefix::{address_place, SIX};
 use crate::walk::{Stop, BETWEEN, FRAGMENT_HEADER, HOP_BY_HOP, MOST, OPTIONS, ROUTING};
 
 pub const STOPS: [Stop; 5] = [Stop::Fragment, Stop::Late, Stop::Ninth, Stop::Reach, Stop::SegmentsLeft];
@@ -37,6 +38,24 @@ impl Maker {
         self.around_the_payloads_end();
         self.nothing_behind();
         self.records_between();
+    }
+
+    /// Prefix exchanges where the walk is stopped, for one thing, for two or three, and beside other faults, a word of
+    /// FFFF among them.
+    pub fn exchanges_where_stopped(&mut self) {
+        self.single_stops();
+        self.stops_in_one_header();
+        self.stops_in_two_headers();
+        self.stops_before_others();
+        self.nothing_at_all();
+        for stop in STOPS {
+            let (mut base, at) = (self.base(), if stop == Stop::Ninth { MOST } else { 1 });
+            for side in [0, 1] {
+                write_word(&mut base, address_place(side) + SIX, 0xFFFF);
+            }
+            let packet = self.stopped(&base, &[(at, stop)], Past::OneByte);
+            self.each_call(&packet);
+        }
     }
 
     /// A packet with headers between of which some stop the walk, each by its place in the list. A ninth header stops it

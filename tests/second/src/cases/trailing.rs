@@ -2,7 +2,7 @@
 // nothing of it is summed, edited or mended.
 
 use super::captures::capture;
-use super::Maker;
+use super::{Calls, Maker};
 use crate::answer::*;
 use crate::draft::{balance_message, declare, faults_of, refresh, spoil, write_word, Fault, Shape};
 use crate::mend::write_field;
@@ -168,6 +168,9 @@ impl Maker {
         self.left(STRETCH, 1, &new);
         self.left(LIFETIME, 0, &[]);
         self.left(STRETCH, View::new(packet).body_length() as u64, &new);
+        if self.calls != Calls::Older {
+            self.any_exchange();
+        }
         self.left(JUDGE, 0, &[]);
         self.left(MEND, 0, &[]);
         self.left(JUDGE, 0, &[]);

@@ -216,6 +216,7 @@ fn behind(view: &View, number: u8) -> String {
 /// Whether an accepted call changed another byte than the message's field and what it is to change.
 fn changed_elsewhere(case: &Case, before: &View, after: &View) -> bool {
     let field = before.field_place()..before.field_place() + 2;
+    let keeps_field = [LIFETIME, PREFIX].contains(&case.operation);
     let own = match case.operation {
         LIFETIME => before.lifetime_place()..before.lifetime_place() + 1,
         ADDRESS => {
@@ -226,15 +227,19 @@ fn changed_elsewhere(case: &Case, before: &View, after: &View) -> bool {
             let place = before.message_start() + before.body_offset() + case.number as usize;
             place..place + case.two.len()
         }
+        PREFIX => {
+            let place = before.address_place(case.exchange().0 as usize);
+            place..place + 8
+        }
         _ => field.clone(),
     };
-    let may = |place: &usize| own.contains(place) || (case.operation != LIFETIME && field.contains(place));
+    let may = |place: &usize| own.contains(place) || (!keeps_field && field.contains(place));
     (0..before.bytes.len()).any(|place| before.byte(place) != after.byte(place) && !may(&place))
 }
 
 pub fn wanted_exactly() -> Vec<String> {
     let mut wanted = Vec::new();
-    for operation in JUDGE..=STRETCH {
+    for operation in calls_of(6) {
         let name = format!("{} of IPv6, headers between", OPERATIONS[operation as usize]);
         let rules =
             looked_at(operation).map(|rule| (rule.name, rule.number)).chain(own_rules(operation).iter().copied());
@@ -288,11 +293,11 @@ fn answer(operation: u8, stop: Stop) -> Verdict {
 
 fn wanted_stops() -> Vec<String> {
     let mut wanted = Vec::new();
-    for (operation, stop) in (JUDGE..=STRETCH).flat_map(|operation| STOPS.map(|stop| (operation, stop))) {
+    for (operation, stop) in calls_of(6).flat_map(|operation| STOPS.map(|stop| (operation, stop))) {
         let (name, verdict) = (OPERATIONS[operation as usize], answer(operation, stop));
         wanted.extend(places(stop).iter().map(|at| format!("{name}, {stop:?} in header {at}, alone: {verdict}")));
     }
-    for (operation, number) in (JUDGE..=STRETCH).flat_map(|operation| BETWEEN.map(|number| (operation, number))) {
+    for (operation, number) in calls_of(6).flat_map(|operation| BETWEEN.map(|number| (operation, number))) {
         let stop = if number == FRAGMENT_HEADER { Stop::Fragment } else { Stop::Reach };
         let name = format!("{} of IPv6, headers between", OPERATIONS[operation as usize]);
         wanted.push(format!("{name}, but not there, {number}: {}", answer(operation, stop)));
@@ -310,7 +315,7 @@ fn wanted_stops() -> Vec<String> {
 /// Every two stops that can be in one header, three, and every two in two headers, next to each other and apart.
 fn wanted_two_stops() -> Vec<String> {
     let mut wanted = Vec::new();
-    for operation in JUDGE..=STRETCH {
+    for operation in calls_of(6) {
         let name = OPERATIONS[operation as usize];
         let one = |(a, b): (Stop, Stop)| format!("{name}, {a:?} before {b:?} in one header: {}", answer(operation, a));
         wanted.extend(IN_ONE.map(one));
@@ -412,13 +417,13 @@ fn wanted_messages() -> Vec<String> {
         let kind = kind_name((6, row.protocol));
         for count in 1..=MOST {
             let of = |name: &str, verdict: Verdict| format!("{name} of {kind} behind {count} headers: {verdict}");
-            wanted.extend((JUDGE..=STRETCH).map(|operation| of(OPERATIONS[operation as usize], GOOD)));
+            wanted.extend(calls_of(6).map(|operation| of(OPERATIONS[operation as usize], GOOD)));
             wanted.push(of("judge", MESSAGE_SUM));
             if row.protocol == UDP {
                 wanted.extend(["judge", "set address", "set stretch"].map(|name| of(name, MISSING)));
             }
         }
-        for operation in JUDGE..=STRETCH {
+        for operation in calls_of(6) {
             let name = format!("{} of {kind} behind headers", OPERATIONS[operation as usize]);
             wanted.extend(
                 refusals(operation, row.protocol).map(|(rule, number)| format!("{name}, {rule} refused: {number}")),

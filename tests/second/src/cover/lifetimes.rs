@@ -87,14 +87,11 @@ pub fn part(view: &View) -> Option<&'static str> {
 /// What differs after an accepted edit, in words.
 fn changes(before: &View, after: &View) -> String {
     let one_less = |place| before.byte(place).checked_sub(1) == Some(after.byte(place));
-    let name = |place: usize| match place {
+    differing(before, after, |place| match place {
         10 | 11 if before.family == 4 => "the header field",
         _ if place == before.lifetime_place() && one_less(place) => "the lifetime to one less",
         _ => "another byte",
-    };
-    let differing = (0..before.bytes.len()).filter(|place| before.byte(*place) != after.byte(*place));
-    let names: BTreeSet<&str> = differing.map(name).collect();
-    names.into_iter().collect::<Vec<_>>().join(" and ")
+    })
 }
 
 /// What a packet is, as far as the lifetime edit must not care, in all ways of saying it that are wanted.

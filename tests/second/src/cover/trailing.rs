@@ -228,7 +228,7 @@ fn refusals(operation: u8, family: u8) -> Vec<Named> {
 
 pub fn wanted_exactly() -> Vec<String> {
     let mut wanted = Vec::new();
-    for (family, operation) in [4, 6].into_iter().flat_map(|family| (JUDGE..=STRETCH).map(move |op| (family, op))) {
+    for (family, operation) in [4, 6].into_iter().flat_map(|family| calls_of(family).map(move |op| (family, op))) {
         let name = OPERATIONS[operation as usize];
         let numbers = refusals(operation, family).into_iter().map(|rule| rule.1).chain([GOOD]);
         wanted.extend(numbers.map(|number| format!("{name} of IPv{family}, a trailing area: {number}")));
@@ -254,7 +254,7 @@ pub fn wanted() -> Vec<String> {
         wanted.extend(wanted_sums(family));
         wanted.extend(wanted_fields(family));
         wanted.extend(wanted_sequences(family));
-        for operation in JUDGE..=STRETCH {
+        for operation in calls_of(family) {
             let name = format!("{} of IPv{family}, a trailing area", OPERATIONS[operation as usize]);
             wanted.push(format!("{name}, cut behind the datagram"));
             let pairs = pairs(&refusals(operation, family));
