@@ -30,7 +30,7 @@ withWord prefix w = prefix ++ (w / 256 ∷ w % 256 ∷ [])
 abbrev pub keepsClass : List ℕ → ℕ → List ℕ → ℕ → Bool
 keepsClass p a new w = eqb (class (addressAt (put p a (withWord new w)) a)) (class (addressAt p a))
 
--- the number below n that passes a test which one of them passes
+-- the largest number below n that passes a test, or 0; where one passes alone, that one
 unfoldable pub oneBelow : ℕ → (ℕ → Bool) → ℕ
 oneBelow zero test = 0
 oneBelow (suc n) test = if test n then n else oneBelow n test
