@@ -84,7 +84,7 @@ module _ (p : List ℕ) (k : OuterFacts p) where
   lifetime-told =
       next (family-tells (ltb (byteAt p (lifetimeAt p)) 2) (λ f. simp f (ltb-tells (byteAt p 8) 2)) (λ f. simp f (ltb-tells (byteAt p 7) 2)), refl) λ e. tt
 
--- ---- and those of the other two, where no common one does
+-- ---- and those of address and stretch, where no common one does
 size-tells : (n size : ℕ) → Tells (not (eqb n size)) (n ≢ size)
 size-tells n size = not-tells (eqb n size) (eqb-tells n size)
 

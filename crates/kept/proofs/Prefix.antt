@@ -86,6 +86,10 @@ module _ (p : List ℕ) (a : ℕ) (new : List ℕ) (fits : a + 16 ≤ length p) 
   pub word-only : (w : ℕ) → w < 65535 → keepsClass p a new w ≡ true → w ≡ wordOf p a new
   word-only w l t = let c = keeps-tells w .0 t in omega (arith, word-as)
 
+  -- of the values 0000 to FFFE exactly one
+  pub word-exactly : (w : ℕ) → ((w < 65535) × (keepsClass p a new w ≡ true)) ↔ (w ≡ wordOf p a new)
+  word-exactly w = (λ h. word-only w (h .0) (h .1), λ e. (rw e word-small, rw e word-keeps))
+
   pub new-class : class (prefixNew p a new) ≡ class (part p a 8)
   new-class = ap (λ n. n % 65535) (with-total (wordOf p a new)) ∙ keeps-tells (wordOf p a new) .0 word-keeps
 

@@ -29,7 +29,7 @@ lifetimeLeft p = headerAfter p (lifetimeAt p) (lowered p) (put p (lifetimeAt p) 
 unfoldable pub lifetimeOf : List ℕ → Verdict × List ℕ
 lifetimeOf p = first (outerRules p ++ lifetimeRules p) (λ v. (v, p)) (Good, lifetimeLeft p)
 
--- ---- what the other two edits refuse first: 2, 3, 4, 6, 7, 8 in the judge's order, sums not being looked at
+-- ---- what the other edits refuse first: 2, 3, 4, 6, 7, 8 in the judge's order, sums not being looked at
 unfoldable pub editRules : List ℕ → List Rule
 editRules p = wholeRules p ++ missingRule p
 

@@ -1,4 +1,4 @@
-// What the edits have in common: UDP over IPv6 without a sum, which address and stretch refuse, whether ICMP is blank,
+// What the edits have in common: UDP over IPv6 without a sum, which all but the lifetime refuse, whether ICMP is blank,
 // and fields updated and written.
 mod blank;
 mod update;
