@@ -1,7 +1,7 @@
 -- The judge: the first rule that applies, in the paper's order.
 use Prim.Native.Nat.{ℕ}
 use mathlib.Core.List.{List, [], _∷_, _++_}
-use mathlib.Core.Bool.{not, _&&_}
+use mathlib.Core.Bool.{Bool, not, _&&_}
 use Rattle.verdicts.specs.Rules.{Rule, _⇒_, verdictBy}
 use Rattle.verdicts.specs.declared.Verdict.{Verdict}
 use Rattle.verdicts.specs.declared.Verdict.the-variants.{Unsummed, HeaderSum, Missing, MessageSum}
@@ -17,14 +17,16 @@ headerSumRule p = (not (headerSums p) ⇒ HeaderSum) ∷ []
 abbrev pub missingRule : List ℕ → List Rule
 missingRule p = (silentOf p && not (four p) ⇒ Missing) ∷ []
 
-abbrev pub unsummedRule : List ℕ → List Rule
-unsummedRule p = (silentOf p && four p ⇒ Unsummed) ∷ []
-
-abbrev pub messageSumRule : List ℕ → List Rule
-messageSumRule p = (not (messageSums p) ⇒ MessageSum) ∷ []
+-- of any message, whatever carries it: whether it is UDP's with zero, over IPv4, and its sum right
+abbrev pub sumRulesBy : (silent four sums : Bool) → List Rule
+sumRulesBy silent four sums =
+    (silent && not four ⇒ Missing)
+    ∷ (silent && four ⇒ Unsummed)
+    ∷ (not sums ⇒ MessageSum)
+    ∷ []
 
 unfoldable pub sumRules : List ℕ → List Rule
-sumRules p = missingRule p ++ (unsummedRule p ++ messageSumRule p)
+sumRules p = sumRulesBy (silentOf p) (four p) (messageSums p)
 
 unfoldable pub judgeRules : List ℕ → List Rule
 judgeRules p = outerRules p ++ (headerSumRule p ++ (walkRules p ++ (messageRules p ++ sumRules p)))

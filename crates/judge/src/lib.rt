@@ -50,7 +50,7 @@ pub fn judge(packet: &[u8]) -> Verdict
 }
 
 // Whether the header's sum is right, or there is none. A header's total isn't 0: the version isn't.
-fn header_sums(packet: &[u8], h: Header) -> bool
+pub fn header_sums(packet: &[u8], h: Header) -> bool
     requires { ⌜ Frame.Ip h ≡ outerOf (now packet) ⌝ }
     ensures { λ r. ⌜ r ≡ headerSums (now (packet .entry)) ⌝ }
 {

@@ -15,7 +15,7 @@ abbrev pub Refusals : List Rule → Type 0
 Refusals rules = Ranks (λ v. 0 < numberOf v) rules
 
 -- good comes only where none of them holds
-verdict-clear : (rules : List Rule) → Refusals rules → verdictBy rules ≡ Good → clear rules
+pub verdict-clear : (rules : List Rule) → Refusals rules → verdictBy rules ≡ Good → clear rules
 verdict-clear [] r e = tt
 verdict-clear ((true ⇒ v) ∷ rules) r e = absurd (omega (arith, ap numberOf e, r .0))
 verdict-clear ((false ⇒ v) ∷ rules) r e = (refl, verdict-clear rules (r .1) e)

@@ -1,0 +1,7 @@
+-- Laws of fragments.
+pub mod Headers
+pub mod Packets
+pub mod Moves
+pub mod Tails
+pub mod Gathering
+pub mod Calls

@@ -1,0 +1,3 @@
+-- The fragments of one packet: ticket 6.
+pub mod Fragments
+pub mod Gathered
