@@ -1,5 +1,5 @@
-/* Measures the library beside the ways of ways.c and same.c, on UDP packets, over IPv6 also behind another header, and
- * a lifetime also on fragments.
+/* Measures the library beside the ways of ways.c, same.c and gather.c, on UDP packets, over IPv6 also behind another
+ * header, a lifetime also on fragments, and on lists of fragments.
  *
  *     bench calls        calls each once, between begin() and end(), and prints a line for each call:
  *                        what an emulator's trace is counted by
@@ -7,11 +7,11 @@
  *     bench watched      the same for those of the library's calls whose counts the gate watches
  *     bench nine         the same for the nine calls whose cycles are estimated
  *     bench times        measures nanoseconds for each call, and prints a line for each
- *     bench same COUNT   holds same.c to the library on so many random packets
+ *     bench same COUNT   holds same.c to the library on so many random packets, and gather.c on a tenth as many lists
  *
  * A line is operation, packet, way and for times the nanoseconds, with bars between. All ways are first seen to do the
- * same. With ONLY_OURS defined the library alone is there, with NO_PREFIX it is one of before that exchanges none, and
- * without CLANG the ways by clang aren't there. */
+ * same. With ONLY_OURS defined the library alone is there, with NO_PREFIX it is one of before that exchanges none, with
+ * NO_FRAGMENTS one that judges no lists of fragments, and without CLANG the ways by clang aren't there. */
 #define _POSIX_C_SOURCE 200809L
 #include <stdio.h>
 #include <stdlib.h>
@@ -20,18 +20,22 @@
 
 #include "ways.h"
 
-enum operation { FIELD, CHAIN, JUDGE, MEND, LOWER, ADDRESS, STRETCH, PREFIX, OPERATIONS };
-enum { LONGEST = 60000, PIECE = 63, BATCH = 64, ROUNDS = 3000 };
+enum operation { FIELD, CHAIN, JUDGE, MEND, LOWER, ADDRESS, STRETCH, PREFIX, GATHER, OPERATIONS };
+enum { LONGEST = 67000, MESSAGE = 65515, MOST = 64, PIECE = 63, BATCH = 64, ROUNDS = 3000, FEWER = 150 };
 
 static const char *const names[OPERATIONS] = {
     "field", "chain", "judge", "mend", "lower lifetime", "set address", "set stretch", "exchange prefix",
+    "judge fragments",
 };
 #ifdef NO_PREFIX
 #define hifrostum_exchange_prefix 0
 #endif
+#ifdef NO_FRAGMENTS
+#define hifrostum_judge_fragments 0
+#endif
 static const struct way library = {
     "ours", hifrostum_field, hifrostum_sum_chain, hifrostum_judge, hifrostum_mend, hifrostum_lower_lifetime,
-    hifrostum_set_address, hifrostum_set_stretch, hifrostum_exchange_prefix,
+    hifrostum_set_address, hifrostum_set_stretch, hifrostum_exchange_prefix, hifrostum_judge_fragments,
 };
 static const struct way *const ours = &library;
 
@@ -44,11 +48,13 @@ static const struct {
 #ifndef ONLY_OURS
     {"cc: ", plain_cc},           {"cc: ", plain_cc + 1},       {"cc: ", plain_cc + 2},
     {"cc: ", plain_cc + 3},       {"cc: ", &once_cc},           {"cc: ", &copies_cc},
-    {"cc: ", &adc_cc},            {"cc: ", &sse2_cc},
+    {"cc: ", &adc_cc},            {"cc: ", &sse2_cc},           {"cc: ", &copied_cc},
+    {"cc: ", &placed_cc},         {"cc: ", &placed_adc_cc},     {"cc: ", &placed_sse2_cc},
 #ifdef CLANG
     {"clang: ", plain_clang},     {"clang: ", plain_clang + 1}, {"clang: ", plain_clang + 2},
     {"clang: ", plain_clang + 3}, {"clang: ", &once_clang},     {"clang: ", &copies_clang},
-    {"clang: ", &adc_clang},      {"clang: ", &sse2_clang},
+    {"clang: ", &adc_clang},      {"clang: ", &sse2_clang},     {"clang: ", &copied_clang},
+    {"clang: ", &placed_clang},   {"clang: ", &placed_adc_clang}, {"clang: ", &placed_sse2_clang},
 #endif
 #endif
 };
@@ -57,11 +63,15 @@ enum { WAYS = sizeof ways / sizeof *ways };
 static const size_t lengths[] = {40, 64, 128, 576, 1500};
 static const uint8_t new[16] = {0xFD, 0x12, 0x34, 0x56, 0x78, 0x9A, 0xBC, 0xDE, 0xF0, 1, 2, 3, 4, 5, 6, 7};
 
-/* What a call is given; a sum takes any bytes. A fragment is one from the middle of a datagram. The last has a
- * hop-by-hop header of 8 bytes between, and so as much message as IPv6 without it has in 8 bytes less. */
-enum packet { IPV4, IPV6, FRAGMENT4, FRAGMENT6, HOP_BY_HOP, PACKETS };
+/* What a call is given; a sum takes any bytes. A fragment is one from the middle of a datagram. A packet with a
+ * hop-by-hop header of 8 bytes between has as much message as IPv6 without it has in 8 bytes less. The others are all
+ * the fragments of a datagram, and the length is that of their message. */
+enum packet { IPV4, IPV6, FRAGMENT4, FRAGMENT6, HOP_BY_HOP, PACKETS, WHOLE = PACKETS, TWO, THREE, ORDER, BACK, MIXED };
 enum { BETWEEN = 8 };
-static const char *const packets[PACKETS] = {"IPv4", "IPv6", "IPv4 fragment", "IPv6 fragment", "IPv6 hop-by-hop"};
+static const char *const packets[] = {
+    "IPv4",           "IPv6",       "IPv4 fragment", "IPv6 fragment", "IPv6 hop-by-hop", "1, message of", "2, message of",
+    "3, message of", "64 in order, message of", "64 reversed, message of", "64 shuffled, message of",
+};
 
 /* Calls that are looked at more closely. */
 struct row {
@@ -72,6 +82,7 @@ struct row {
 static const struct row watched[] = {
     {JUDGE, IPV4, 40}, {JUDGE, IPV4, 64},   {JUDGE, IPV4, 1500}, {JUDGE, IPV6, 64},  {MEND, IPV4, 64}, {MEND, IPV6, 64},
     {LOWER, IPV4, 64}, {ADDRESS, IPV4, 64}, {STRETCH, IPV4, 64}, {PREFIX, IPV6, 64}, {FIELD, IPV4, 64},
+    {GATHER, TWO, 1480}, {GATHER, ORDER, MESSAGE}, {GATHER, BACK, MESSAGE},
 };
 static const struct row nine[] = {
     {JUDGE, IPV4, 64}, {JUDGE, IPV4, 1500}, {JUDGE, IPV6, 64},   {MEND, IPV4, 64},    {MEND, IPV4, 1500},
@@ -97,6 +108,10 @@ static void cut(size_t len)
     }
 }
 
+/* The fragments of a datagram in one buffer, one behind the other, and the list of them. */
+static struct hifrostum_fragment records[MOST];
+static size_t records_len;
+
 /* What a trace is cut at. */
 __attribute__((noinline)) void begin(void)
 {
@@ -113,8 +128,11 @@ static int has(const struct way *way, enum operation op)
     switch (op) {
     case FIELD: return way->field != 0;
     case CHAIN: return way->chain != 0;
+    case JUDGE: return way->judge != 0;
+    case MEND: return way->mend != 0;
     case PREFIX: return way->prefix != 0;
-    default: return op >= LOWER || way->judge;
+    case GATHER: return way->gather != 0;
+    default: return way->lower != 0;
     }
 }
 
@@ -133,7 +151,8 @@ static inline __attribute__((always_inline)) unsigned call(const struct way *way
     case LOWER: return way->lower(packet, len);
     case ADDRESS: return way->address(packet, len, 1, new, packet[0] >> 4 == 4 ? 4 : 16);
     case STRETCH: return way->stretch(packet, len, 3, new, 8);
-    default: return way->prefix(packet, len, 1, prefixes[turn], 6, prefixes[1 - turn], 6);
+    case PREFIX: return way->prefix(packet, len, 1, prefixes[turn], 6, prefixes[1 - turn], 6);
+    default: return way->gather(packet, len, records, records_len);
     }
 }
 
@@ -194,6 +213,34 @@ static void build(uint8_t *packet, enum packet kind, size_t len)
         insert(packet, len);
 }
 
+/* Cuts a good packet into fragments of the same size and of what is left, and lists them. Answers the buffer's length.
+ * The shuffled order is the same each time. */
+static size_t gathered(uint8_t *buffer, enum packet kind, size_t message)
+{
+    static uint8_t packet[LONGEST];
+    size_t count = kind == WHOLE ? 1 : kind == TWO ? 2 : kind == THREE ? 3 : MOST, len = 0, at = 0;
+    size_t size = (message + 8 * count - 1) / (8 * count) * 8;
+    build(packet, IPV4, 20 + message);
+    for (records_len = 0; at < message; at += size, records_len++) {
+        size_t piece = size < message - at ? size : message - at;
+        uint8_t *p = buffer + len;
+        memcpy(p, packet, 20);
+        put(p + 2, 20 + piece);
+        put(p + 6, at / 8 + (at + piece < message ? 0x2000 : 0));
+        put(p + 10, 0);
+        put(p + 10, hifrostum_field(p, 20));
+        memcpy(p + 20, packet + 20 + at, piece);
+        size_t i = kind == BACK ? count - 1 - records_len : kind == MIXED ? (37 * records_len + 5) % count : records_len;
+        records[i] = (struct hifrostum_fragment){len, 20 + piece};
+        len += 20 + piece;
+    }
+    if (records_len != count) {
+        fprintf(stderr, "bench: no %zu fragments of %zu bytes\n", count, message);
+        exit(1);
+    }
+    return len;
+}
+
 /* Stops unless a way answers and writes what the library does. Answers 0 if that refuses, as a library of before does a
  * fragment or headers between: then there is nothing to measure. */
 static int compare(const struct way *way, enum operation op, const uint8_t *packet, size_t len)
@@ -236,19 +283,19 @@ static void print_row(struct row r, size_t w)
 
 /* The best of many batches for each way, all ways taking turns. Each batch begins with the good packet, and none of its
  * calls may be refused: an even number of them leaves the turn as it was. */
-static void timed(struct row r, const uint8_t *packet)
+static void timed(struct row r, const uint8_t *packet, size_t len)
 {
     static uint8_t copy[LONGEST];
     double best[WAYS] = {0};
-    for (int round = 0; round < ROUNDS; round++)
+    for (int round = 0; round < (r.len > 9000 ? FEWER : ROUNDS); round++)
         for (size_t w = 0; w < WAYS; w++) {
             if (!has(*ways[w].way, r.op))
                 continue;
-            memcpy(copy, packet, r.len);
+            memcpy(copy, packet, len);
             unsigned answers = 0;
             double start = now();
             for (int i = 0; i < BATCH; i++, turn = 1 - turn)
-                answers |= call(*ways[w].way, r.op, copy, r.len);
+                answers |= call(*ways[w].way, r.op, copy, len);
             double each = (now() - start) / BATCH;
             if (best[w] == 0 || each < best[w])
                 best[w] = each;
@@ -268,20 +315,25 @@ static void timed(struct row r, const uint8_t *packet)
 static void measure(int calls, struct row r, size_t first)
 {
     static uint8_t packet[LONGEST];
-    build(packet, r.packet, r.len);
-    memcpy(prefixes[0], packet + 24, sizeof prefixes[0]);
-    cut(r.len);
+    size_t len = r.len;
+    if (r.op == GATHER) {
+        len = gathered(packet, r.packet, r.len);
+    } else {
+        build(packet, r.packet, len);
+        memcpy(prefixes[0], packet + 24, sizeof prefixes[0]);
+        cut(len);
+    }
     for (size_t w = 0; w < first; w++) {
-        if (!has(*ways[w].way, r.op) || !compare(*ways[w].way, r.op, packet, r.len))
+        if (!has(*ways[w].way, r.op) || !compare(*ways[w].way, r.op, packet, len))
             continue;
         if (calls) {
-            counted(*ways[w].way, r.op, packet, r.len);
+            counted(*ways[w].way, r.op, packet, len);
             print_row(r, w);
             printf("\n");
         }
     }
     if (!calls)
-        timed(r, packet);
+        timed(r, packet, len);
 }
 
 /* UDP has bytes behind its IP header, a sum has no family, of fragments only a lifetime is edited, and prefixes are
@@ -296,13 +348,19 @@ static int possible(struct row r)
 
 static void measure_all(int calls)
 {
-    for (enum operation op = 0; op < OPERATIONS; op++)
+    static const struct row lists[] = {
+        {GATHER, WHOLE, 40},   {GATHER, TWO, 1480},      {GATHER, TWO, 2960},     {GATHER, THREE, 1480},
+        {GATHER, THREE, 4000}, {GATHER, ORDER, MESSAGE}, {GATHER, BACK, MESSAGE}, {GATHER, MIXED, MESSAGE},
+    };
+    for (enum operation op = 0; op < GATHER; op++)
         for (enum packet packet = 0; packet < PACKETS; packet++)
             for (size_t i = 0; i < sizeof lengths / sizeof *lengths; i++) {
                 struct row r = {op, packet, lengths[i] + (packet == HOP_BY_HOP ? BETWEEN : 0)};
                 if (possible(r))
                     measure(calls, r, WAYS);
             }
+    for (size_t i = 0; i < sizeof lists / sizeof *lists; i++)
+        measure(calls, lists[i], WAYS);
 }
 
 /* Edits of the library's whose cost must not grow with the packet. */
@@ -316,6 +374,18 @@ static void measure_lengths(void)
 }
 
 #ifndef ONLY_OURS
+/* gather.c's are the ways that judge fragments. */
+static void hold_gathered(unsigned long lists)
+{
+    unsigned long held = 0, all = 0;
+    for (size_t w = 1; w < WAYS; w++)
+        all += has(*ways[w].way, GATHER);
+    for (size_t w = 1; w < WAYS; w++)
+        if (has(*ways[w].way, GATHER))
+            held += differ_lists(ours, ways[w].by, *ways[w].way, w, lists / all);
+    printf("gather.c does what the library does: %lu random lists of fragments\n", held);
+}
+
 /* same.c's are the ways that judge and have no chain. */
 static void hold_same(unsigned long packets)
 {
@@ -343,8 +413,10 @@ int main(int argc, char **argv)
         for (size_t i = 0; i < sizeof nine / sizeof *nine; i++)
             measure(1, nine[i], WAYS);
 #ifndef ONLY_OURS
-    else if (strcmp(what, "same") == 0 && argc == 3)
+    else if (strcmp(what, "same") == 0 && argc == 3) {
         hold_same(strtoul(argv[2], NULL, 10));
+        hold_gathered(strtoul(argv[2], NULL, 10) / 10);
+    }
 #endif
     else {
         fprintf(stderr, "usage: bench calls|lengths|watched|nine|times|same COUNT\n");

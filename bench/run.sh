@@ -3,8 +3,8 @@
 #
 # On any machine: the instructions of each call, counted in the trace of qemu-x86_64 running one instruction at a time,
 # and cycles that llvm-mca estimates. On x86-64 also times. The library is what the kit's LLVM makes of it. Plain C
-# (ways.c) is compiled with -O2, and C that makes the library's own tests (same.c) with -O3, by the machine's C compiler
-# and by clang where there is one.
+# (ways.c) is compiled with -O2, and C that makes the library's own tests (same.c, and gather.c for fragments) with -O3,
+# by the machine's C compiler and by clang where there is one.
 #
 #   BEFORE=DIR/libhifrostum.a BEFORE_COMMIT=NAME bench/run.sh
 #
@@ -35,10 +35,16 @@ objects='' compilers=cc
                 -o "$out/$name-$by.o"
             objects="$objects $out/$name-$by.o"
         done
+        for way in copied:1:PLAIN placed:0:PLAIN placed_adc:0:CHAINS placed_sse2:0:VECTORS; do
+            name=${way%%:*} kind=${way##*:} copied=${way#*:}
+            $x86 "$by" -O3 $flags -DBY="${name}_$by" -DCOPIED="${copied%:*}" -DKIND="$kind" -c bench/gather.c \
+                -o "$out/$name-$by.o"
+            objects="$objects $out/$name-$by.o"
+        done
     done
     clang=
     [ "$compilers" = cc ] || clang=-DCLANG
-    $x86 cc -O2 $flags $clang -static bench/bench.c bench/differ.c $objects "$archive" -o $out/bench
+    $x86 cc -O2 $flags $clang -static bench/bench.c bench/differ.c bench/lists.c $objects "$archive" -o $out/bench
 }
 
 # Prints a table of the lines on standard input; table.awk says what KIND is.
@@ -46,12 +52,21 @@ table() { # KIND COLUMNS
     awk -F ' *[|] *' -v kind="$1" -v columns="$2" -f bench/table.awk
 }
 
+# Lines about lists of fragments, or about all else.
+about() { # lists|packets
+    case $1 in
+    lists) grep '^judge fragments |' ;;
+    packets) grep -v '^judge fragments |' ;;
+    esac
+}
+
 # the columns' names
-once='' copies=''
+once='' copies='' copied='' placed=''
 for by in $compilers; do
-    once="$once;$by: once" copies="$copies;$by: copies"
+    once="$once;$by: once" copies="$copies;$by: copies" copied="$copied;$by: copied" placed="$placed;$by: in place"
 done
 plain=';RFC 1071 loop;64-bit loop;DPDK shape;RFC 1624 or 6296 by hand' same="$once$copies;adc;SSE2"
+gathered="$copied$placed;adc;SSE2"
 
 commit=$(git rev-parse --short HEAD 2>/dev/null) || commit=unknown
 git diff --quiet HEAD -- crates crates.txt 2>/dev/null || commit="$commit, with changes"
@@ -68,6 +83,7 @@ before='' old=''
 if [ -n "${BEFORE:-}" ]; then
     less=
     $x86 nm "$BEFORE" | grep -q ' T hifrostum_exchange_prefix$' || less=-DNO_PREFIX
+    $x86 nm "$BEFORE" | grep -q ' T hifrostum_judge_fragments$' || less="$less -DNO_FRAGMENTS"
     # shellcheck disable=SC2086
     $x86 cc -O2 $flags $less -DONLY_OURS -static bench/bench.c "$BEFORE" -o $out/bench-before
     bench/count.sh $out/bench-before calls >$out/before
@@ -87,7 +103,12 @@ echo "work stands once for all of them, as ours does, or in copies for each. The
 echo "add-with-carry (adc), which are assembly; or SSE2 for long strings and chains for short ones, both by the better"
 echo "compiler. 'C' is the best without assembly, and 'best' the best of all:"
 echo
-table same "ours$before$same" <$out/calls
+about packets <$out/calls | table same "ours$before$same"
+echo
+echo "Fragments of one message, beside C that makes the same tests in the same order. It puts the message together in a"
+echo "buffer and sums that (copied), or sums each piece in place; the last two columns do so with the sums named there:"
+echo
+about lists <$out/calls | table gathered "ours$gathered"
 
 echo
 echo "Instructions of three edits, by the packet's length:"
@@ -125,12 +146,14 @@ bench/cycles.sh "ours$before$same" $out/bench $old
 echo
 if $x86 native; then
     $x86 run $out/bench times >$out/times
-    echo "Nanoseconds for each call (best of 3,000 batches, in turns;"
+    echo "Nanoseconds for each call (best of 3,000 batches, of 150 for 64 fragments, in turns;"
     echo "$(sed -n 's/^model name[^:]*: *//p' /proc/cpuinfo | head -n 1)):"
     echo
     table plain "ours$plain" <$out/times
     echo
-    table same "ours$same" <$out/times
+    about packets <$out/times | table same "ours$same"
+    echo
+    about lists <$out/times | table gathered "ours$gathered"
 else
     echo "Times are measured on x86-64 alone; this machine is $(uname -m)."
 fi

@@ -1,8 +1,15 @@
 # Prints lines 'operation | packet | column | value' as a table. columns has the names, with ; between them. A name with
 # no compiler before it has the better of both compilers. kind is plain (the values, and ours over the best) or same
 # (also ours over the best C whose work stands once, and over the best C without assembly). Rows in which no column but
-# ours and before has a value are left out, and equal rows of an operation are joined.
+# ours and before has a value are left out, and equal rows of an operation are joined. gathered is as same, for C that
+# copies fragments together or sums them in place.
 BEGIN {
+    heads["same"] = " ours / once | ours / C |"
+    heads["gathered"] = " ours / copied | ours / C |"
+    first["same"] = "once$"
+    first["gathered"] = "copied$"
+    c_alone["same"] = "(once|copies)$"
+    c_alone["gathered"] = "(copied|in place)$"
     n = split(columns, column, ";")
     for (c = 1; c <= n; c++)
         is_column[column[c]] = 1
@@ -26,8 +33,8 @@ END {
         head = head " " column[c] " |"
         rule = rule "---|"
     }
-    print head (kind == "same" ? " ours / once | ours / C |" : "") " ours / best |"
-    print rule (kind == "same" ? "---|---|" : "") "---|"
+    print head heads[kind] " ours / best |"
+    print rule (kind in first ? "---|---|" : "") "---|"
     for (r = 1; r <= count; r++)
         print_row(rows[r])
     print_joined()
@@ -50,8 +57,8 @@ function print_row(row,    text, c, v) {
     for (c = 1; c <= n; c++)
         text = text " " value[row, column[c]] " |"
     v = value[row, "ours"]
-    if (kind == "same")
-        text = text sprintf(" %.2f | %.2f |", v / least(row, "once$"), v / least(row, "(once|copies)$"))
+    if (kind in first)
+        text = text sprintf(" %.2f | %.2f |", v / least(row, first[kind]), v / least(row, c_alone[kind]))
     text = text sprintf(" %.2f |", v / least(row, ""))
     match(row, / [0-9]+$/)
     if (substr(row, 1, RSTART - 1) != joined || text != held) {

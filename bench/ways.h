@@ -15,6 +15,7 @@ struct way {
     uint8_t (*address)(uint8_t *, size_t, uint32_t, const uint8_t *, size_t);
     uint8_t (*stretch)(uint8_t *, size_t, size_t, const uint8_t *, size_t);
     uint8_t (*prefix)(uint8_t *, size_t, uint32_t, const uint8_t *, size_t, const uint8_t *, size_t);
+    uint8_t (*gather)(const uint8_t *, size_t, const struct hifrostum_fragment *, size_t);
 };
 
 /* ways.c, as one C compiler makes it and as clang does: the loop of RFC 1071, a 64-bit accumulator, the shape of DPDK's
@@ -26,9 +27,17 @@ extern const struct way *const plain_cc[PLAIN_WAYS], *const plain_clang[PLAIN_WA
 extern const struct way *const once_cc, *const copies_cc, *const adc_cc, *const sse2_cc;
 extern const struct way *const once_clang, *const copies_clang, *const adc_clang, *const sse2_clang;
 
+/* gather.c, by both: fragments alone, the message copied together or summed in place, with each kind of sums. */
+extern const struct way *const copied_cc, *const placed_cc, *const placed_adc_cc, *const placed_sse2_cc;
+extern const struct way *const copied_clang, *const placed_clang, *const placed_adc_clang, *const placed_sse2_clang;
+
 /* differ.c: stops the program at the first difference between two ways, in answers or in bytes, on packets from a
  * seeded generator. Answers how many calls were compared. */
 unsigned long differ(const struct way *ours, const char *by, const struct way *way, uint64_t seed,
                      unsigned long packets);
+
+/* lists.c: the same for lists of fragments. */
+unsigned long differ_lists(const struct way *ours, const char *by, const struct way *way, uint64_t seed,
+                           unsigned long lists);
 
 #endif

@@ -37,10 +37,11 @@
  * walk refuses first, 6, 7 or 4; protocol 7; message shorter than its fixed header 4; TCP's data offset
  * or UDP's length below that header or past the message 4.
  *
- * Fragments. A message's field stands in its first fragment and covers all of them, so nobody judges
- * it on the way: judge says 6 of an IPv4 fragment once its header's sum has passed, and of an IPv6
+ * Fragments. A message's field stands in its first fragment and covers all of them, so none can be
+ * judged by itself: judge says 6 of an IPv4 fragment once its header's sum has passed, and of an IPv6
  * packet where the walk meets a fragment header, first or behind others. Of the edits and the mender
- * only the lifetime edit takes them.
+ * only the lifetime edit takes them. Who has all fragments of an IPv4 packet has their message judged
+ * by hifrostum_judge_fragments; IPv6's are judged by no call.
  */
 #ifndef HIFROSTUM_H
 #define HIFROSTUM_H
@@ -54,21 +55,21 @@ extern "C" {
 
 /* The version of this surface. It goes up by one whenever a function, a constant, or what an answer
  * means is added, changed or taken away; CHANGELOG.md says what a host's author must do then. */
-#define HIFROSTUM_SURFACE_VERSION 7
+#define HIFROSTUM_SURFACE_VERSION 8
 
 /* What a call answers. */
 enum hifrostum_verdict {
     HIFROSTUM_GOOD = 0,        /* all sums in use pass, or the call was done */
     HIFROSTUM_UNSUMMED = 1,    /* the IPv4 header passes, the UDP field is 0000 */
-    HIFROSTUM_CUT = 2,         /* no bytes, or fewer than a header has or than declared */
-    HIFROSTUM_VERSION = 3,     /* the version is not 4 or 6; not 6, where IPv6 alone is taken */
-    HIFROSTUM_SHAPE = 4,       /* a length contradicts another */
+    HIFROSTUM_CUT = 2,         /* no bytes, or fewer than a header has or than declared; no fragments */
+    HIFROSTUM_VERSION = 3,     /* the version is not 4 or 6; not the one that a call takes alone */
+    HIFROSTUM_SHAPE = 4,       /* a length contradicts another; fragments that can't be of one packet */
     HIFROSTUM_HEADER_SUM = 5,  /* the IPv4 header doesn't pass */
-    HIFROSTUM_FRAGMENT = 6,    /* more fragments follow, or the offset is not 0; a fragment header */
+    HIFROSTUM_FRAGMENT = 6,    /* a fragment, or a fragment header; fragments that fill no message */
     HIFROSTUM_UNCOVERED = 7,   /* a protocol not covered in this family, or headers not walked */
     HIFROSTUM_MISSING = 8,     /* UDP over IPv6 with the field 0000 */
     HIFROSTUM_MESSAGE_SUM = 9, /* the message doesn't pass */
-    HIFROSTUM_PLACE = 10,      /* a piece, length, stretch, side, address or prefix doesn't fit */
+    HIFROSTUM_PLACE = 10,      /* a piece, length, stretch, side, address, prefix or list doesn't fit */
     HIFROSTUM_SPENT = 11,      /* the lifetime is 0 or 1 */
     HIFROSTUM_BLANK = 12,      /* an ICMP message that is, or would be, all zeros */
     HIFROSTUM_MARK = 13,       /* a capture without the mark "GLR" */
@@ -80,6 +81,35 @@ enum hifrostum_verdict {
 /* The verdict on a packet: 0 or 1, or the first refusal. Changes nothing.
  * Refusals: the shape's, with a header sum (5) before fragment, then 8, 9. */
 uint8_t hifrostum_judge(const uint8_t *packet, size_t len);
+
+/* Where a fragment lies in a buffer: its IP header begins at the offset, and the length counts the
+ * bytes from there on, a tail among them. Two size_t, and nothing between or behind them. */
+struct hifrostum_fragment {
+    size_t offset;
+    size_t length;
+};
+
+/* The verdict on the message of one IPv4 packet that came in up to 64 fragments: that of the same
+ * message in a packet that came whole. The fragments lie in one buffer, and a record of the list says
+ * where each is; list_len counts records. They may come in any order, have other bytes between them
+ * and overlap in the buffer: the message is put together by their fragment offsets. A packet that came
+ * whole is a list of one. Buffer and list are read only, and no message is copied.
+ * Lifetimes, options, service bytes and the two flags beside more-fragments may differ from fragment
+ * to fragment. A fragment's tail is not looked at, nor what follows a UDP datagram in the message,
+ * which may be in fragments of its own. A fragment that is there twice is an overlap (6): list one of
+ * the two. To gather fragments until all are there, and to give up on them, is the caller's part.
+ * Refusals: 2 for an empty list; 10 for more than 64 records, or one whose offset plus length passes
+ * the buffer's end, and nothing wraps. Then record by record, in list order, the outer ones, where
+ * every version but 4 is 3, so IPv6 too, and a header sum (5). Then 4 if they differ in source,
+ * destination, protocol or identification, if one brings no byte of the message, or if one ends past
+ * message byte 65,515 (8 times its fragment offset plus what it brings). Then 6 unless, sorted by
+ * fragment offset, they fill the message from its first byte on with no gap and no overlap, all but the
+ * last having more-fragments set and a length that divides by 8, and the last having it clear. Then of
+ * the whole message: protocol 7, and what follows that in the shape's refusals; 9.
+ * Where every packet passes what is tested up to 5, the order of the records doesn't change the
+ * answer. */
+uint8_t hifrostum_judge_fragments(const uint8_t *buffer, size_t len,
+                                  const struct hifrostum_fragment *list, size_t list_len);
 
 /* Sets the IPv4 header field and the message field to their fresh values, and answers 0. UDP over
  * IPv4 with the field 0000 keeps it; over IPv6 it is filled in. No other byte changes.

@@ -1,10 +1,11 @@
 /* Packets that meet the rare branches by design: totals that are multiples of 65535, fields at 0000, FFFF and beside
  * them, changes of 0, 1 and 65534; messages of every length at every address modulo 32; lifetimes in packets that no
  * other edit takes; prefixes whose words are corners, and every word behind one; UDP datagrams that end before their
- * message does; and headers between, such as a walk gets past and such as it doesn't.
+ * message does; headers between, such as a walk gets past and such as it doesn't; and messages in fragments, which lie
+ * in one buffer in any order, right and with each thing that can be wrong.
  *
  * What is wanted is the answer of model.h. After each call the verdict and every byte are compared, and in the end each
- * rare branch of the model must have been taken.
+ * rare branch of the model must have been taken. Each packet that is judged is also judged as a list of one fragment.
  */
 #include <stdio.h>
 #include <string.h>
@@ -28,6 +29,26 @@ static uint8_t room[GUARD + 64 + ROOM + GUARD] __attribute__((aligned(64)));
 enum call { JUDGE, MEND, LOWER, ADDRESS, STRETCH, PREFIX };
 static const char *const names[] = {"judge",       "mend",        "lower lifetime",
                                     "set address", "set stretch", "exchange prefix"};
+
+/* Compares a call on fragments, which were built as a kind of packet. Neither the buffer nor the list may change. */
+static void hold_list(const struct kind *kind, const uint8_t *buffer, size_t len,
+                      const struct hifrostum_fragment *records, size_t n)
+{
+    static uint8_t was[1 << 18];
+    static struct hifrostum_fragment were[80];
+    memcpy(was, buffer, len);
+    memcpy(were, records, n * sizeof *records);
+    comparing = 1;
+    unsigned wanted = judge_fragments(kind, was, len, were, n);
+    comparing = 0;
+    unsigned got = hifrostum_judge_fragments(buffer, len, records, n);
+    checks++;
+    if (got == wanted && memcmp(buffer, was, len) == 0 && memcmp(records, were, n * sizeof *records) == 0)
+        return;
+    if (failed++ < 20)
+        printf("corners: failed: judge fragments, built as protocol %u%s, %zu records: wanted %u, got %u\n",
+               kind->protocol, kind->tail ? " with a tail" : "", n, wanted, got);
+}
 
 static void hold(enum call call, const struct packet *p, size_t address, size_t number, const uint8_t *new, size_t len)
 {
@@ -55,6 +76,10 @@ static void hold(enum call call, const struct packet *p, size_t address, size_t 
                                                                  len - 6);
     for (size_t i = 0; i < GUARD; i++)
         kept &= at[-1 - (ptrdiff_t)i] == 0xA5 && at[p->len + i] == 0xA5;
+    if (call == JUDGE) {
+        struct hifrostum_fragment one = {GUARD + address, p->len};
+        hold_list(p->built, room, one.offset + p->len + GUARD, &one, 1);
+    }
     checks++;
     if (got == wanted && memcmp(at, want.bytes, p->len) == 0 && kept)
         return;
@@ -787,6 +812,368 @@ static void misreadings(void)
     group("headers between, misread");
 }
 
+/* Fragments. They lie in a yard, and the records say where. */
+
+enum { YARD = 1 << 18, RECORDS = 70, FOURS = 4 };
+static uint8_t yard[YARD];
+static struct hifrostum_fragment list[RECORDS];
+static size_t used, count;
+
+static uint8_t *packet_at(size_t i)
+{
+    return yard + list[i].offset;
+}
+
+static void fresh_head(uint8_t *packet)
+{
+    put(packet + 10, 0);
+    put(packet + 10, 65535 - fold(total(packet, 4u * (packet[0] & 15))));
+}
+
+/* Lays a fragment into the yard, the bytes of a packet's message from one place to another. Options, lifetime, service
+ * byte, the flags beside more-fragments, and a tail are its own, and other bytes may lie before it. */
+static void lay(const struct packet *from, size_t at, size_t end)
+{
+    size_t header = any(4) || end - at > 65000 ? 20 : 20 + 4 * any(11), len = header + end - at;
+    size_t before = any(4) ? 0 : any(5), tail = any(4) ? 0 : any(9);
+    for (size_t i = 0; i < before + len + tail; i++)
+        yard[used + i] = (uint8_t)any(256);
+    uint8_t *packet = yard + used + before;
+    packet[0] = (uint8_t)(0x40 + header / 4);
+    put(packet + 2, len);
+    memcpy(packet + 4, from->bytes + 4, 2);
+    put(packet + 6, 0x4000 * any(4) + (end < message_len(from) ? 0x2000 : 0) + at / 8);
+    packet[9] = from->bytes[9];
+    memcpy(packet + 12, from->bytes + 12, 8);
+    memcpy(packet + header, from->bytes + from->header + at, end - at);
+    fresh_head(packet);
+    list[count++] = (struct hifrostum_fragment){used + before, len + tail};
+    used += before + len + tail;
+}
+
+/* Cuts a packet's message into so many fragments, or as many as it has eights, and lays them in order. */
+static void scatter(const struct packet *from, size_t pieces)
+{
+    size_t len = message_len(from), at = 0, eights = (len + 7) / 8;
+    used = count = 0;
+    for (pieces = pieces < eights ? pieces : eights; pieces > 1; pieces--) {
+        size_t most = (len - at + 7) / 8 - (pieces - 1), some = 1 + any((unsigned)(2 * most / pieces + 1));
+        size_t end = at + 8 * (some < most ? some : most);
+        lay(from, at, end);
+        at = end;
+    }
+    lay(from, at, len);
+}
+
+static void swap(size_t i, size_t j)
+{
+    struct hifrostum_fragment record = list[i];
+    list[i] = list[j];
+    list[j] = record;
+}
+
+static void shuffle(void)
+{
+    for (size_t i = count; i > 1; i--)
+        swap(i - 1, any((unsigned)i));
+}
+
+static void reverse(void)
+{
+    for (size_t i = 0; i < count / 2; i++)
+        swap(i, count - 1 - i);
+}
+
+static void hold_yard(const struct kind *kind)
+{
+    hold_list(kind, yard, used, list, count);
+}
+
+/* In the order that they have, in the other, and in any. */
+static void hold_orders(const struct kind *kind)
+{
+    hold_yard(kind);
+    reverse();
+    hold_yard(kind);
+    shuffle();
+    hold_yard(kind);
+}
+
+/* The fragments of p: as they are, with one bit of the message wrong, with one bit wrong anywhere in the yard, with a
+ * record that reaches over all behind it, with one left out, and with one twice. */
+static void pieces_of(size_t pieces)
+{
+    const struct kind *kind = p.built;
+    scatter(&p, pieces);
+    hold_orders(kind);
+    size_t which = any((unsigned)count), reaching = 0;
+    uint8_t *packet = packet_at(which), *own = packet + 4 * (packet[0] & 15), *any_byte = yard + any((unsigned)used);
+    uint8_t bit = (uint8_t)(1 << any(8)), other = (uint8_t)(1 << any(8));
+    own += any((unsigned)(packet + word(packet + 2) - own));
+    *own ^= bit;
+    hold_orders(kind);
+    *own ^= bit;
+    *any_byte ^= other;
+    hold_orders(kind);
+    *any_byte ^= other;
+    size_t length = list[which].length;
+    list[which].length = used - list[which].offset;
+    hold_orders(kind);
+    for (size_t i = 0; i < count; i++)
+        if (packet_at(i) == packet)
+            list[reaching = i].length = length;
+    swap(reaching, --count);
+    hold_orders(kind);
+    count++;
+    list[count] = list[which];
+    count++;
+    hold_orders(kind);
+}
+
+/* Messages of every length up to 200, and some up to the longest, in one to 64 pieces. */
+static void fragmentations(void)
+{
+    static const size_t longer[] = {504, 505, 512, 521, 1480, 4097, 65514, 65515}, some[] = {1, 64, 2, 3, 17};
+    for (size_t k = 0; k < FOURS; k++) {
+        for (size_t len = kinds[k].fixed; len <= 200; len++)
+            for (size_t turn = 0; turn < 12; turn++) {
+                build(&p, &kinds[k], 0, len);
+                if (turn % 6 == 5)
+                    put(field_of(&p), 0);
+                pieces_of(turn < 6 ? 1 + turn % 4 : 1 + any(25));
+            }
+        for (size_t i = 0; i < sizeof longer / sizeof *longer; i++)
+            for (size_t turn = 0; turn < (longer[i] < 5000 ? 5 : 2); turn++) {
+                build(&p, &kinds[k], 0, longer[i]);
+                pieces_of(some[turn]);
+            }
+    }
+    group("messages in fragments");
+}
+
+/* Lists of no record, of 64, 65 and more; records that pass the buffer's end, by one byte, and by so many that their
+ * sum wraps, also behind one whose header is wrong. */
+static void lists(void)
+{
+    for (size_t i = 0; i < FOURS * 60; i++) {
+        const struct kind *kind = &kinds[i % FOURS];
+        build(&p, kind, 0, 640);
+        scatter(&p, 64 + i / FOURS % 6);
+        hold_orders(kind);
+        scatter(&p, 1 + any(64));
+        hold_list(kind, yard, used, list, 0);
+        hold_list(kind, yard, 0, list, 0);
+        if (i / FOURS % 2)
+            packet_at(0)[any(20)] ^= (uint8_t)(1 << any(8));
+        struct hifrostum_fragment *record = &list[any((unsigned)count)], was = *record;
+        size_t past = used - was.offset + 1;
+        const struct hifrostum_fragment outside[] = {
+            {was.offset, past},      {was.offset, past - 1},      {used, 0},
+            {used, 1},               {used + 1, 0},               {was.offset + past, SIZE_MAX - was.offset - past + 1},
+            {was.offset, SIZE_MAX},  {1, SIZE_MAX},               {SIZE_MAX, 1},
+            {SIZE_MAX, 0},           {SIZE_MAX, SIZE_MAX},        {0, SIZE_MAX},
+            {was.offset, SIZE_MAX - was.offset + 1 + any(20)},    {SIZE_MAX - 19, 40},
+            {(size_t)1 << 63, (size_t)1 << 63},                   {(size_t)1 << 32, was.length},
+            {was.offset, was.length + ((size_t)1 << 32)},
+        };
+        for (size_t j = 0; j < sizeof outside / sizeof *outside; j++) {
+            *record = outside[j];
+            hold_yard(kind);
+        }
+        hold_list(kind, yard, was.offset + was.length - 1, list, count);
+    }
+    group("lists of fragments");
+}
+
+/* What can be wrong with a record by its header. */
+enum head { NO_BYTES, IS_SIX, OTHER_VERSION, FEW_BYTES, FEW_WORDS, FEW_TOTAL, BYTE_SHORT, WRONG_SUM, HEADS };
+
+/* Makes a record's header wrong. Its sum becomes right again, unless that is what is to be wrong. */
+static void spoil_head(size_t i, enum head how)
+{
+    static const uint8_t others[] = {0x05, 0x15, 0x35, 0x55, 0x75, 0xF5};
+    uint8_t *packet = packet_at(i);
+    size_t header = 4u * (packet[0] & 15);
+    switch (how) {
+    case NO_BYTES: list[i].length = 0; break;
+    case IS_SIX: packet[0] = (uint8_t)(0x60 + (packet[0] & 15)); break;
+    case OTHER_VERSION: packet[0] = others[any(6)]; break;
+    case FEW_BYTES: list[i].length = 1 + any(19); break;
+    case FEW_WORDS: packet[0] = (uint8_t)(0x40 + any(5)); break;
+    case FEW_TOTAL: put(packet + 2, header == 0 ? 0 : header - 1 - any(2) * any((unsigned)header)); break;
+    case BYTE_SHORT: list[i].length = word(packet + 2) - (word(packet + 2) > 0); break;
+    default: break;
+    }
+    if (list[i].length >= header)
+        fresh_head(packet);
+    if (how == WRONG_SUM)
+        packet[10 + any(10)] ^= (uint8_t)(1 << any(8));
+}
+
+/* Each of them in each of four records, with another in the same record or another, and with fragments that aren't of
+ * one packet. */
+static void heads(void)
+{
+    for (size_t i = 0; i < FOURS * HEADS * 4 * (HEADS + 1) * 4; i++) {
+        const struct kind *kind = &kinds[i % FOURS];
+        enum head how = i / FOURS % HEADS, other = i / FOURS / HEADS / 4 % (HEADS + 1);
+        build(&p, kind, 0, 40);
+        scatter(&p, 4);
+        shuffle();
+        size_t which = i / FOURS / HEADS % 4, second = any(4);
+        if (i % 3 == 0) {
+            uint8_t *packet = packet_at(any(4));
+            packet[12 + any(8)] ^= 1;
+            fresh_head(packet);
+        }
+        if (other < HEADS)
+            spoil_head(second, other);
+        spoil_head(which, how);
+        hold_yard(kind);
+    }
+    group("fragments by their headers");
+}
+
+/* What can be wrong with fragments whose headers are right. */
+enum misfit {
+    SOURCE, TARGET, PROTOCOL, NUMBER, HOLLOW, BEYOND, LAST_OFFSET, LATER, EARLIER, MORE_SET, MORE_CLEAR, SHORTER,
+    LONGER, OUT, TWICE, EXCHANGED, MISFITS
+};
+
+/* Makes a fragment unfit. Its header's sum stays right. */
+static void misfit(size_t i, enum misfit how)
+{
+    uint8_t *packet = packet_at(i);
+    size_t header = 4u * (packet[0] & 15), at = word(packet + 6) & 0x1FFF, len = word(packet + 2) - header;
+    unsigned flags = word(packet + 6) & 0xE000;
+    switch (how) {
+    case SOURCE: packet[12 + any(4)] ^= (uint8_t)(1 << any(8)); break;
+    case TARGET: packet[16 + any(4)] ^= (uint8_t)(1 << any(8)); break;
+    case PROTOCOL: packet[9] ^= (uint8_t)(1 << any(8)); break;
+    case NUMBER: packet[4 + any(2)] ^= (uint8_t)(1 << any(8)); break;
+    case HOLLOW: put(packet + 2, header); break;
+    /* the first place from which it ends past 65,515, or the last from which it doesn't */
+    case BEYOND: put(packet + 6, flags + (65515 - len) / 8 + any(2)); break;
+    case LAST_OFFSET: put(packet + 6, flags + 8191 - any(3)); break;
+    case LATER: put(packet + 6, flags + ((at + 1 + any(3)) & 0x1FFF)); break;
+    case EARLIER: put(packet + 6, flags + at - (at > 0)); break;
+    case MORE_SET: put(packet + 6, word(packet + 6) | 0x2000); break;
+    case MORE_CLEAR: put(packet + 6, word(packet + 6) & ~0x2000u); break;
+    case SHORTER: put(packet + 2, header + len - (len > 8 ? 1 + any(8) : 1)); break;
+    case LONGER: put(packet + 2, header + len + (any(2) ? 8 : 1 + any(8))); break;
+    case OUT: swap(i, --count); break;
+    case TWICE: list[count++] = list[i]; break;
+    case EXCHANGED: memcpy(packet + header, q.bytes + q.header + 8 * at, len); break;
+    default: break;
+    }
+    if (how == LONGER && list[i].length < word(packet + 2))
+        list[i].length = word(packet + 2);
+    fresh_head(packet);
+}
+
+/* Each of them in any of two to five fragments, with another and without, and in messages of another protocol. Those
+ * that are longer end in the next one's header, or are the last, behind which there is room. */
+static void misfits(void)
+{
+    for (size_t i = 0; i < FOURS * MISFITS * (MISFITS + 2) * 8; i++) {
+        const struct kind *kind = &kinds[i % FOURS];
+        enum misfit how = i / FOURS % MISFITS;
+        size_t other = i / FOURS / MISFITS % (MISFITS + 2), turn = i / FOURS / MISFITS / (MISFITS + 2);
+        build(&q, kind, 0, 90);
+        build(&p, kind, 0, 40 + any(40));
+        if (turn % 8 == 7)
+            p.bytes[9] = (uint8_t)any(256);
+        scatter(&p, 2 + turn % 4);
+        used += 16;
+        size_t which = any((unsigned)count);
+        if (other < MISFITS)
+            misfit(any((unsigned)count), other);
+        misfit(which % count, how);
+        hold_orders(kind);
+    }
+    group("fragments that don't fit");
+}
+
+/* A fragment that is 8 bytes longer than fits, or begins 8 bytes early, with the right bytes. */
+static void overlaps(void)
+{
+    for (size_t i = 0; i < FOURS * 200; i++) {
+        const struct kind *kind = &kinds[i % FOURS];
+        build(&p, kind, 0, 64);
+        size_t first = 8 * (1 + any(3)), second = first + 8 * (1 + any(3)), early = i / FOURS % 2 ? 8 : 0;
+        used = count = 0;
+        lay(&p, 0, first + 8 - early);
+        lay(&p, first - early, second);
+        lay(&p, second, message_len(&p));
+        hold_orders(kind);
+    }
+    group("fragments that overlap");
+}
+
+/* Whole messages: totals that are multiples of 65535 under every corner field, ones without a sum among them. */
+static void joined_multiples(void)
+{
+    for (size_t i = 0; i < FOURS * CORNERS * 30; i++) {
+        const struct kind *kind = &kinds[i % FOURS];
+        build(&p, kind, 0, kind->fixed + any(60));
+        balance_message(&p);
+        put(field_of(&p), corners[i / FOURS % CORNERS]);
+        scatter(&p, 1 + any(6));
+        hold_orders(kind);
+        if (kind->protocol == ICMP) {
+            memset(p.bytes + p.header, 0, message_len(&p));
+            p.bytes[p.header + any((unsigned)message_len(&p))] = (uint8_t)(any(2) * any(256));
+            scatter(&p, 1 + any(6));
+            hold_orders(kind);
+        }
+    }
+    group("messages in fragments, and multiples of 65535");
+}
+
+/* Messages shorter than their fixed header, of every protocol, and with every data offset and lengths that UDP may say
+ * or not. The field is right for the message, for the first fragment's length in the pseudo-header, and as the covered
+ * block may be misread. */
+static void joined_shapes(void)
+{
+    for (size_t i = 0; i < FOURS * 256 * 4; i++) {
+        const struct kind *kind = &kinds[i % FOURS];
+        unsigned turn = (unsigned)(i / FOURS) % 256;
+        build(&p, kind, 0, 20 + any(60));
+        uint8_t *message = p.bytes + p.header;
+        size_t len = message_len(&p);
+        if (kind->protocol == TCP)
+            message[12] = (uint8_t)turn;
+        if (kind->protocol == UDP)
+            put(message + 4, turn < len + 3 ? turn : any(65536));
+        if (!refused(&p)) {
+            freshen(&p);
+            for (enum how how = RIGHT; how <= BOTH && kind->tail; how++) {
+                put(field_of(&p), 0);
+                put(field_of(&p), 65535 - fold(total_read(&p, how)));
+                scatter(&p, 1 + any(6));
+                hold_yard(kind);
+            }
+            freshen(&p);
+        }
+        scatter(&p, 1 + any(6));
+        hold_orders(kind);
+        if (!refused(&p)) {
+            size_t first = word(packet_at(0) + 2) - 4u * (packet_at(0)[0] & 15);
+            balance(field_of(&p), message_total(&p) - covered_len(&p) + first);
+            scatter(&p, 2);
+            hold_yard(kind);
+        }
+        p.bytes[9] = (uint8_t)turn;
+        scatter(&p, 1 + any(6));
+        hold_yard(kind);
+        p.bytes[9] = (uint8_t)kind->protocol;
+        put(p.bytes + 2, p.header + 1 + any(kind->fixed));
+        scatter(&p, 1 + any(3));
+        hold_orders(kind);
+    }
+    group("messages in fragments, and their shapes");
+}
+
 /* Fails unless each branch was met with each kind that has it. */
 static unsigned long branches(void)
 {
@@ -804,6 +1191,14 @@ static unsigned long branches(void)
                            : b == PREFIX_FOUR                                    ? four
                            : b == PREFIX_FIELD                                   ? !udp && !four
                            : b > PREFIX_FOUR && b < PREFIX_FIELD                 ? !four
+                           : b == JOINED_LENGTH || b == JOINED_FITS              ? four && !icmp
+                           : b == JOINED_FIRST                                   ? four && !icmp
+                           : b == JOINED_SILENT                                  ? four && udp
+                           : b == JOINED_ZERO                                    ? four && !udp
+                           : b == JOINED_BLANK                                   ? icmp
+                           : b == JOINED_SECOND || b == JOINED_THIRD             ? four && !icmp && !udp
+                           : b >= ENDS_INSIDE                                    ? four && kinds[k].tail
+                           : b >= LIST_EMPTY                                     ? four
                            : b >= WALK_EIGHT                                     ? kinds[k].between != 0
                            : b >= TAIL_LENGTH                                    ? kinds[k].tail != 0
                                                                                  : 1;
@@ -833,6 +1228,13 @@ int main(void)
     datagrams();
     walks();
     misreadings();
+    fragmentations();
+    lists();
+    heads();
+    misfits();
+    overlaps();
+    joined_multiples();
+    joined_shapes();
     unsigned long rare = branches();
     printf("corners: %lu checks, %lu failed (%lu rare branches, each met)\n", checks, failed, rare);
     return failed != 0;

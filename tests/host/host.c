@@ -4,8 +4,9 @@
  * addresses, and over buffers that end where memory that can't be touched begins. The three must
  * agree, no guard byte may change, and a refused call may change nothing at all. An empty buffer is
  * a null pointer in the first. Tails inside a packet also lie in memory that can't be touched, and so
- * does what headers between reach for behind a payload. What is wanted is the rules' or comes from the
- * sums below.
+ * does what headers between reach for behind a payload. Each packet that is judged is judged as a list
+ * of one fragment too; fragments and their list lie in memory that can't be written, once in three.
+ * What is wanted is the rules' or comes from the sums below.
  */
 #define _DEFAULT_SOURCE
 #include <stdio.h>
@@ -147,9 +148,66 @@ static unsigned call(enum operation op, uint8_t *packet, size_t len, size_t numb
     return call_with(op, packet, len, number, bytes, bytes_len, NULL, 0);
 }
 
+_Static_assert(sizeof(struct hifrostum_fragment) == 2 * sizeof(size_t) &&
+                   offsetof(struct hifrostum_fragment, offset) == 0 &&
+                   offsetof(struct hifrostum_fragment, length) == sizeof(size_t),
+               "a record is an offset and a length, each a size_t");
+
+/* Sets whether what is lent of a room, and what follows it, may be written. */
+static void allow(const struct room *room, int how)
+{
+    size_t page = (size_t)sysconf(_SC_PAGESIZE), start = (size_t)(room->lent - room->map) / page * page;
+    if (start < SPACE && mprotect(room->map + start, SPACE - start, how) != 0) {
+        perror("host: mprotect");
+        exit(1);
+    }
+}
+
+/* Judges fragments. Those before a wall, and their list, lie in memory that can only be read. */
+static unsigned judge_list(const uint8_t *buffer, size_t len, const struct hifrostum_fragment *list, size_t count)
+{
+    unsigned answer = 0;
+    for (int lay = 0; lay < LAYS; lay++) {
+        const uint8_t *b = lend(&first, lay, buffer, len, 1);
+        const struct hifrostum_fragment *l = lend(&second, lay, list, count * sizeof *list, sizeof(size_t));
+        if (lay == 2) {
+            allow(&first, PROT_READ);
+            allow(&second, PROT_READ);
+        }
+        unsigned verdict = hifrostum_judge_fragments(b, len, l, count);
+        if (lay == 2) {
+            allow(&first, PROT_READ | PROT_WRITE);
+            allow(&second, PROT_READ | PROT_WRITE);
+        }
+        guards(&first);
+        guards(&second);
+        unchanged(&first, buffer);
+        unchanged(&second, list);
+        answer = lay == 0 ? verdict : answer;
+        expect(verdict, answer, "the same answer in another place");
+    }
+    return answer;
+}
+
+/* What a list of one packet gets that has this verdict: the same, but 3 for IPv6, and 4 for a fragment or a protocol
+ * that isn't covered where the message is empty or ends past byte 65,515. */
+static unsigned listed_alone(const uint8_t *packet, size_t len, unsigned verdict)
+{
+    if (len > 0 && packet[0] >> 4 == 6)
+        return 3;
+    if (verdict != 6 && verdict != 7)
+        return verdict;
+    size_t message = 256u * packet[2] + packet[3] - 4u * (packet[0] & 15);
+    size_t at = 8 * (256u * (packet[6] & 31) + packet[7]);
+    return message == 0 || at + message > 65515 ? 4 : verdict;
+}
+
 static unsigned judge(uint8_t *packet, size_t len)
 {
-    return call(JUDGE, packet, len, 0, NULL, 0);
+    const struct hifrostum_fragment one = {0, len};
+    unsigned verdict = call(JUDGE, packet, len, 0, NULL, 0);
+    expect(judge_list(packet, len, &one, 1), listed_alone(packet, len, verdict), "judge it as a list of one");
+    return verdict;
 }
 
 static unsigned mend(uint8_t *packet, size_t len)
@@ -1951,6 +2009,683 @@ static void faults_in_order(void)
     }
 }
 
+/* Fragments of one packet. They lie in a yard, one behind the other, and a list says where. */
+
+enum { MOST = 64 };
+static uint8_t yard[SPACE / 2];
+static struct hifrostum_fragment list[MOST + 8];
+static size_t held, listed;
+
+static uint8_t *packet_at(size_t i)
+{
+    return yard + list[i].offset;
+}
+
+static void swap(size_t i, size_t j)
+{
+    struct hifrostum_fragment record = list[i];
+    list[i] = list[j];
+    list[j] = record;
+}
+
+static void reverse(void)
+{
+    for (size_t i = 0; i < listed / 2; i++)
+        swap(i, listed - 1 - i);
+}
+
+/* Lays a fragment of p into the yard: its message from one byte to another, behind so many bytes of options and before
+ * a tail. Lifetimes, service bytes and the two flags that don't count differ. */
+static void lay(size_t from, size_t to, size_t options, size_t tail)
+{
+    static const unsigned flags[] = {0, 0x4000, 0x8000, 0xC000};
+    uint8_t *at = yard + held;
+    size_t header = 20 + options, len = header + to - from;
+    memcpy(at, p, 20);
+    memset(at + 20, 1, options);
+    at[0] = (uint8_t)(0x40 + header / 4);
+    at[1] = (uint8_t)(listed * 5);
+    put(at + 2, len);
+    put(at + 6, flags[listed % 4] + (to < message_of(p) ? 0x2000 : 0) + from / 8);
+    at[8] = (uint8_t)(64 - listed);
+    memcpy(at + header, p + start_of(p) + from, to - from);
+    memset(at + len, 0xEE, tail);
+    fresh_header(at);
+    list[listed++] = (struct hifrostum_fragment){held, len + tail};
+    held += len + tail;
+}
+
+/* Cuts the message of p into pieces of so many bytes, the last of what is left. */
+static void cut_by(size_t size, size_t options, size_t tail)
+{
+    size_t len = message_of(p);
+    held = listed = 0;
+    for (size_t at = 0; at < len; at += size)
+        lay(at, at + size < len ? at + size : len, options, tail);
+}
+
+static unsigned judge_yard(void)
+{
+    return judge_list(yard, held, list, listed);
+}
+
+/* Judges the yard with the first so many records in every order. */
+static void every_order(size_t first_ones, unsigned want, const char *what)
+{
+    if (first_ones < 2)
+        expect(judge_yard(), want, what);
+    for (size_t i = 0; first_ones >= 2 && i < first_ones; i++) {
+        swap(i, first_ones - 1);
+        every_order(first_ones - 1, want, what);
+        swap(i, first_ones - 1);
+    }
+}
+
+/* Judges the yard in every order of up to four records, and of more as they are, reversed, and with half of them
+ * exchanged for the other half. In the end the list is as it was. */
+static void in_orders(unsigned want, const char *what)
+{
+    struct hifrostum_fragment were[MOST + 8];
+    memcpy(were, list, sizeof list);
+    if (listed <= 4)
+        every_order(listed, want, what);
+    for (size_t i = 0; listed > 4 && i < 4; i++) {
+        expect(judge_yard(), want, what);
+        reverse();
+        for (size_t j = 0; i % 2 && j < listed / 2; j++)
+            swap(j, j + listed / 2);
+    }
+    memcpy(list, were, sizeof list);
+}
+
+/* p becomes a good packet of IPv4 with the identification 0907. */
+static size_t good_four(unsigned protocol, size_t message)
+{
+    size_t len = packet_of(p, 4, protocol, message);
+    put(p + 4, 0x0907);
+    freshen(p);
+    return len;
+}
+
+/* Sets a word of a fragment, and its header's sum right again. */
+static void reword(size_t i, size_t at, size_t value)
+{
+    put(packet_at(i) + at, value);
+    fresh_header(packet_at(i));
+}
+
+/* The paper's UDP packet as two fragments, of 8 bytes and 2. */
+static const uint8_t two[50] = {
+    0x45, 0, 0, 0x1C, 0, 0, 0x20, 0, 0x40, 0x11, 0xD8, 0xB8, 0xC0, 0xA8, 0, 1, 0xC0, 0xA8, 0, 0xC7,
+    0x13, 0x88, 0x13, 0x89, 0, 0x0A, 0x0E, 0x47,
+    0x45, 0, 0, 0x16, 0, 0, 0, 1, 0x40, 0x11, 0xF8, 0xBD, 0xC0, 0xA8, 0, 1, 0xC0, 0xA8, 0, 0xC7, 0x48, 0x69,
+};
+
+static void two_fragments(void)
+{
+    struct hifrostum_fragment records[] = {{0, 28}, {28, 22}, {0, 28}, {28, 22}, {50, 0}, {51, 0}};
+    expect(judge_list(two, 50, records, 2), 0, "the paper's UDP packet in two");
+    expect(judge_list(two, 50, records + 1, 2), 0, "and in the other order");
+    expect(judge_list(two, 50, records, 1), 6, "the first alone");
+    expect(judge_list(two, 50, records + 1, 1), 6, "the second alone");
+    expect(judge_list(two, 50, records, 3), 6, "the first twice");
+    expect(judge_list(two, 50, records + 1, 3), 6, "the second twice");
+    expect(judge_list(two, 50, records + 3, 2), 2, "an empty record at the buffer's end");
+    expect(judge_list(two, 50, records, 5), 2, "and behind others");
+    expect(judge_list(two, 50, records, 6), 10, "an empty record past the buffer's end");
+    expect(judge_list(two, 49, records, 2), 10, "a buffer of one byte less");
+    expect(judge_list(two, 0, records, 2), 10, "a buffer of no bytes");
+    expect(judge_list(two, 50, NULL, 0), 2, "an empty list");
+    expect(judge_list(NULL, 0, NULL, 0), 2, "an empty list in no buffer");
+    memcpy(yard, two, 50);
+    yard[49] ^= 1;
+    expect(judge_list(yard, 50, records, 2), 9, "a damaged byte in the second");
+    yard[36] ^= 1;
+    expect(judge_list(yard, 50, records, 2), 5, "and in its header");
+    yard[20] ^= 1;
+    yard[36] ^= 1;
+    yard[49] ^= 1;
+    expect(judge_list(yard, 50, records, 2), 9, "a damaged byte in the first");
+}
+
+/* Where a record doesn't lie in the buffer, in whole numbers. Each takes the place of each record of three, also where
+ * another record's header is wrong. */
+static void records_outside(void)
+{
+    static const size_t top = SIZE_MAX, half = SIZE_MAX / 2 + 1, over = (size_t)1 << 32;
+    good_four(17, 40);
+    cut_by(16, 0, 0);
+    const struct hifrostum_fragment fit[] = {{0, held}, {held - 1, 1}, {held, 0}, {0, 0}};
+    const struct hifrostum_fragment outside[] = {
+        {0, held + 1}, {1, held}, {held, 1}, {held + 1, 0}, {held - 20, 21}, {held + 1, top}, {1, top}, {20, top - 19},
+        {20, top}, {top, 1}, {top, 0}, {top, 2}, {top, top}, {0, top}, {top - 19, 40}, {half, half}, {half, 0},
+        {half, half + 30}, {0, half}, {over, 36}, {over, 0}, {36, over + 36}, {36, over}, {36, top - 35},
+    };
+    expect(judge_yard(), 0, "three fragments");
+    for (size_t i = 0; i < 3 * 2; i++) {
+        struct hifrostum_fragment *record = &list[i % 3], was = *record;
+        yard[list[(i + 1) % 3].offset + 8] ^= (uint8_t)(i / 3);
+        for (size_t j = 0; j < sizeof outside / sizeof *outside; j++) {
+            *record = outside[j];
+            expect(judge_yard(), 10, "a record outside");
+        }
+        for (size_t j = 0; j < sizeof fit / sizeof *fit; j++) {
+            *record = fit[j];
+            check(judge_yard() != 10, "a record that just fits");
+        }
+        *record = was;
+        yard[list[(i + 1) % 3].offset + 8] ^= (uint8_t)(i / 3);
+    }
+}
+
+/* None, one, 64 and 65 fragments, and more records than that of anything. */
+static void counts(void)
+{
+    static const struct hifrostum_fragment empty[MOST + 8];
+    for (size_t i = 0; i < 3; i++)
+        for (size_t count = 1; count <= MOST + 6; count++) {
+            good_four(each[i].protocol, 8 * count - 3 + (count < 3 ? 24 : 0));
+            cut_by(count < 3 ? 24 + 8 * (count == 1) : 8, 0, count % 3);
+            expect(listed, count, "as many fragments");
+            in_orders(count > MOST ? 10 : 0, "so many fragments");
+            packet_at(count - 1)[20] ^= 0x40;
+            in_orders(count > MOST ? 10 : 9, "so many, and a byte damaged in the last");
+            packet_at((count - 1) / 2)[9] ^= 0x40;
+            expect(judge_yard(), count > MOST ? 10 : 5, "so many, and a header damaged");
+            listed--;
+            if (count > 1)
+                in_orders(count - 1 > MOST ? 10 : 5, "so many but the last");
+        }
+    for (size_t count = 0; count < MOST + 8; count++) {
+        expect(judge_list(NULL, 0, empty, count), count > MOST ? 10 : 2, "empty records in no buffer");
+        expect(judge_list(two, 50, empty, count), count > MOST ? 10 : 2, "empty records in a buffer");
+    }
+}
+
+/* What can be wrong with a record's header, and what it is refused with. */
+enum heading { SPENT_BYTES, VERSION_6, VERSION_7, UNDER_20, WORDS, TOTAL, LACKING, SUM, HEADINGS };
+static const unsigned headed[HEADINGS] = {2, 3, 3, 2, 4, 4, 2, 5};
+
+/* Makes it wrong so, and its sum right, but for the last. */
+static void head(size_t i, enum heading how)
+{
+    uint8_t *at = packet_at(i);
+    if (how == VERSION_6 || how == VERSION_7)
+        at[0] = how == VERSION_6 ? 0x65 : 0x75;
+    if (how == WORDS)
+        at[0] = 0x44;
+    if (how == TOTAL || how == LACKING)
+        put(at + 2, how == TOTAL ? 19 : list[i].length + 1);
+    fresh_header(at);
+    if (how == SUM)
+        at[9] ^= 0x10;
+    if (how == SPENT_BYTES || how == UNDER_20)
+        list[i].length = how == SPENT_BYTES ? 0 : 19;
+}
+
+/* Each in each record of four, alone and with each other one in each later record: the first of the list decides. */
+static void headings(void)
+{
+    for (size_t i = 0; i < 4 * HEADINGS * 4 * HEADINGS; i++) {
+        size_t early = i % 4, how = i / 4 % HEADINGS, late = i / 4 / HEADINGS % 4, other = i / 16 / HEADINGS;
+        good_four(each[i % 3].protocol, 61);
+        cut_by(16, i % 5 * 4, 0);
+        if (i % 2)
+            reverse();
+        if (late > early)
+            head(late, other);
+        head(early, how);
+        expect(judge_yard(), headed[how], "a wrong header, the first in the list");
+        /* and with a bad shape in the first record, which is tested later */
+        if (early > 0) {
+            reword(0, 4, 0x0908);
+            expect(judge_yard(), headed[how], "a wrong header behind a fragment of another packet");
+            reword(0, 2, 4u * (packet_at(0)[0] & 15));
+            expect(judge_yard(), headed[how], "a wrong header behind an empty fragment");
+        }
+    }
+    /* header lengths, total lengths and the bytes at hand: the first of 4, 4 and 2 */
+    for (size_t i = 0; i < 16 * 8 * 4; i++) {
+        size_t words = i % 16, bytes = 20 + i / 16 % 4 * 20;
+        const size_t totals[] = {0, 19, 20, 4 * words, 4 * words - (words > 0), bytes, bytes + 1, 65535};
+        size_t total = totals[i / 64];
+        good_four(17, 61);
+        cut_by(64, 0, 0);
+        packet_at(0)[0] = (uint8_t)(0x40 + words);
+        put(packet_at(0) + 2, total);
+        list[0].length = bytes;
+        if (words < 5 || total < 4 * words || total > bytes)
+            expect(judge_yard(), words < 5 || total < 4 * words ? 4 : 2, "a header length and a total length");
+        else
+            check(judge_yard() == 5 || fold(weigh(yard, 4 * words)) == 0xFFFF, "lengths that fit");
+    }
+}
+
+/* What all fragments must share, by each of its bits; what they need not; an empty fragment, and one that ends past
+ * byte 65,515. In any order, with a gap and without. */
+static void shared(void)
+{
+    static const size_t own[] = {4, 5, 9, 12, 13, 14, 15, 16, 17, 18, 19}, others[] = {1, 8, 20, 23};
+    for (size_t i = 0; i < 11 * 8 * 3; i++) {
+        good_four(17, 44);
+        cut_by(16, 0, 0);
+        packet_at(i % 3)[own[i / 3 % 11]] ^= (uint8_t)(1 << i / 33);
+        fresh_header(packet_at(i % 3));
+        in_orders(4, "a fragment of another packet");
+        if (i % 3 == 1) {
+            listed--;
+            in_orders(4, "a fragment of another packet, and none that is last");
+        }
+    }
+    for (size_t i = 0; i < 4 * 8 * 3; i++) {
+        good_four(6, 44);
+        cut_by(16, 4, 3);
+        packet_at(i % 3)[others[i / 3 % 4]] ^= (uint8_t)(1 << i / 12);
+        fresh_header(packet_at(i % 3));
+        in_orders(0, "other service bytes, lifetimes and options");
+    }
+    for (size_t i = 0; i < 4; i++)
+        for (size_t which = 0; which < 3; which++) {
+            good_four(each[i % 3].protocol, 44);
+            cut_by(16, 4 * i, 0);
+            reword(which, 2, 20 + 4 * i);
+            in_orders(4, "an empty fragment");
+            swap(0, which);
+            listed = 1;
+            expect(judge_yard(), 4, "an empty fragment alone");
+        }
+}
+
+/* Each place that a fragment can say, with each length around what ends at 65,515. */
+static void ends(void)
+{
+    for (size_t at = 0; at < 8192; at += at < 8170 ? 817 : 1)
+        for (size_t more = 0; more < 2; more++) {
+            size_t left = 8 * at < 65515 ? 65515 - 8 * at : 0;
+            size_t sizes[] = {1, 8, left, left + 1, left + 8, left - (left > 0)};
+            for (size_t i = 0; i < 6; i++) {
+                size_t size = sizes[i];
+                if (size == 0 || size > 1000)
+                    continue;
+                packet_of(p, 4, 17, size);
+                held = listed = 0;
+                lay(0, size, 0, 0);
+                reword(0, 6, 0x2000 * more + at);
+                unsigned want = 8 * at + size > 65515 ? 4 : at > 0 || more ? 6 : judge(yard, held);
+                expect(judge_yard(), want, "a place and a length");
+            }
+        }
+    /* the last of 64, of a message that ends at 65,515, and one byte later */
+    good_four(1, 65515);
+    cut_by(1024, 0, 0);
+    in_orders(0, "64 fragments of the longest message");
+    reword(63, 2, word(packet_at(63) + 2) + 1);
+    list[63].length++;
+    held++;
+    in_orders(4, "one byte longer");
+}
+
+/* Gaps, overlaps, flags and lengths. */
+static void filling(void)
+{
+    for (size_t i = 0; i < 3; i++)
+        for (size_t which = 0; which < 4; which++) {
+            unsigned protocol = each[i].protocol;
+            good_four(protocol, 61);
+            cut_by(16, 0, 8);
+            in_orders(0, "four fragments");
+            /* flags */
+            unsigned flags = word(packet_at(which) + 6);
+            reword(which, 6, flags ^ 0x2000);
+            in_orders(6, which == 3 ? "no last fragment" : "two last fragments");
+            reword(which, 6, flags ^ 0xC000);
+            in_orders(0, "the other flags");
+            /* places */
+            reword(which, 6, flags + 1);
+            in_orders(6, "one that begins 8 bytes late");
+            reword(which, 6, flags + 100);
+            in_orders(6, "one that begins 800 bytes late");
+            if (which > 0) {
+                reword(which, 6, flags - 1);
+                in_orders(6, "one that begins 8 bytes early");
+                reword(which, 6, flags - 2);
+                in_orders(6, "one that begins where another does");
+            }
+            reword(which, 6, flags);
+            /* lengths */
+            size_t total = word(packet_at(which) + 2);
+            for (size_t more = 1; more <= 8; more++) {
+                reword(which, 2, total + more);
+                if (which < 3)
+                    in_orders(6, "a longer one");
+                reword(which, 2, total - more);
+                if (which < 3)
+                    in_orders(6, "a shorter one");
+            }
+            reword(which, 2, total);
+            /* one left out, one twice */
+            list[4] = list[which];
+            listed = 5;
+            in_orders(6, "one that is there twice");
+            listed = 4;
+            swap(which, 3);
+            listed = 3;
+            in_orders(6, "one left out");
+        }
+}
+
+/* Of three fragments the middle one has each length that doesn't divide by 8, and the last begins as near as it can. */
+static void uneven(void)
+{
+    for (size_t i = 0; i < 3 * 3 * 7; i++) {
+        size_t size = 8 + i % 7 + 1, at = 24 + i / 7 % 3 * 8 - 8;
+        good_four(each[i / 21].protocol, 61);
+        held = listed = 0;
+        lay(0, 16, 0, 0);
+        lay(16, 16 + size, 0, 0);
+        lay(at, 61, 0, 0);
+        in_orders(6, "a length that doesn't divide by 8");
+    }
+}
+
+/* Records that overlap in the buffer: each reaches to its end; all reach there from where they lie; and a fragment lies
+ * in the body of another, of which it is part. */
+static void in_another(void)
+{
+    for (size_t i = 0; i < 3; i++) {
+        good_four(each[i].protocol, 61);
+        cut_by(24, 4, 5);
+        for (size_t j = 0; j < listed; j++) {
+            list[j].length = held - list[j].offset;
+            in_orders(0, "a record that reaches to the buffer's end");
+        }
+        yard[held - 6] ^= 1;
+        in_orders(9, "a damaged byte in what they share");
+    }
+    /* the first fragment has 48 bytes, the last 30 of which are the second: its header, and 10 bytes */
+    packet_of(p, 4, 17, 58);
+    put(p + 6, 0);
+    held = listed = 0;
+    lay(0, 48, 0, 0);
+    lay(48, 58, 0, 0);
+    memcpy(yard + 20 + 18, yard + 68, 30);
+    memcpy(p + 20, yard + 20, 48);
+    freshen(p);
+    memcpy(yard + 20, p + 20, 8);
+    list[1] = (struct hifrostum_fragment){20 + 18, 30};
+    held = 68;
+    expect(judge(p, 78), 0, "the whole packet");
+    in_orders(0, "a fragment in another's body");
+    /* both are only read, so the list may lie in the buffer */
+    uint8_t *lent = first.map + 128;
+    memcpy(first.map, yard, held);
+    memcpy(lent, list, 2 * sizeof *list);
+    expect(hifrostum_judge_fragments(first.map, 128 + 2 * sizeof *list, (struct hifrostum_fragment *)lent, 2), 0,
+           "a list in the buffer");
+    check(memcmp(first.map, yard, held) == 0 && memcmp(lent, list, 2 * sizeof *list) == 0, "which stays as it is");
+}
+
+/* The message of each protocol in every two and three pieces, against the judge's verdict on the whole packet. */
+static void all_cuts(void)
+{
+    for (size_t i = 0; i < 3 * 6; i++) {
+        size_t message = 20 + i % 6 * 9, len = good_four(each[i / 6].protocol, message);
+        for (size_t bad = 0; bad < 2; bad++, p[len - 1] ^= 0x20)
+            for (size_t from = 8; from < message; from += 8)
+                for (size_t to = from; to < message; to += 8) {
+                    held = listed = 0;
+                    lay(0, from, 0, 0);
+                    if (to > from)
+                        lay(from, to, 8, 1);
+                    lay(to, message, 0, 0);
+                    unsigned verdict = bad ? 9 : 0;
+                    expect(judge(p, len), verdict, "the whole packet");
+                    in_orders(verdict, "its fragments");
+                }
+    }
+}
+
+/* UDP datagrams that end before their message: at each byte of fragments of 8 and of 16 bytes. What follows isn't
+ * summed, and lies in memory that can't be touched where it has fragments of its own, the last. */
+static void datagrams_in_fragments(void)
+{
+    for (size_t i = 0; i < 2 * 62; i++) {
+        size_t datagram = i / 2, size = i % 2 ? 8 : 16, len = packet_of(p, 4, 17, 60);
+        put(p + 24, datagram);
+        freshen(p);
+        cut_by(size, 0, 0);
+        unsigned want = datagram < 8 || datagram > 60 ? 4 : 0;
+        expect(judge(p, len), want, "the whole packet");
+        in_orders(want, "a datagram's length");
+        if (want)
+            continue;
+        if (datagram < 60) {
+            packet_at((60 - 1) / size)[20 + (60 - 1) % size] ^= 1;
+            in_orders(0, "the message's last byte isn't summed");
+            packet_at(datagram / size)[20 + datagram % size] ^= 1;
+            in_orders(0, "nor the tail's first");
+        }
+        packet_at((datagram - 1) / size)[20 + (datagram - 1) % size] ^= 1;
+        in_orders(9, "the datagram's last byte is");
+        put(packet_at(0) + 26, 0);
+        in_orders(1, "no sum");
+    }
+    for (size_t datagram = 8; datagram <= 24; datagram++) {
+        packet_of(p, 4, 17, 60);
+        put(p + 24, datagram);
+        freshen(p);
+        held = listed = 0;
+        lay(0, 24, 0, 0);
+        lay(24, 60, 0, 7);
+        size_t own = list[1].offset + 20;
+        uint8_t *at = first.map + SPACE - own;
+        memcpy(at, yard, own);
+        for (size_t i = 0; i < 2; i++, reverse())
+            expect(hifrostum_judge_fragments(at, held, list, 2), 0, "a tail in memory that can't be touched");
+    }
+}
+
+/* TCP's data offset in the second fragment and its field in the third: every one, and both bytes of the field. */
+static void headers_apart(void)
+{
+    for (size_t i = 0; i < 3 * 16; i++) {
+        size_t words = i % 16, message = 20 + i / 16 * 13;
+        packet_of(p, 4, 6, message);
+        p[32] = (uint8_t)(words * 16);
+        freshen(p);
+        cut_by(8, 0, 0);
+        unsigned want = words < 5 || 4 * words > message ? 4 : 0;
+        expect(judge(p, 20 + message), want, "the whole packet");
+        in_orders(want, "a data offset in the second fragment");
+        packet_at(2)[20] ^= 0x40;
+        in_orders(want ? want : 9, "a damaged field in the third");
+    }
+    for (size_t i = 0; i < 3; i++)
+        for (size_t message = 1; message < (i == 1 ? 20 : 8); message++) {
+            packet_of(p, 4, each[i].protocol, 30);
+            put(p + 2, 20 + message);
+            cut_by(8, 0, 0);
+            in_orders(4, "a message shorter than its fixed header");
+        }
+    for (unsigned protocol = 0; protocol < 256; protocol++) {
+        good_four(17, 30);
+        p[9] = (uint8_t)protocol;
+        cut_by(16, 0, 0);
+        if (protocol != 1 && protocol != 6 && protocol != 17)
+            in_orders(7, "another protocol");
+        put(p + 2, 21);
+        cut_by(8, 0, 0);
+        in_orders(protocol == 1 || protocol == 6 || protocol == 17 ? 4 : 7, "and one byte of message");
+    }
+    packet_of(p, 4, 1, 30);
+    memset(p + 20, 0, 30);
+    cut_by(16, 0, 0);
+    in_orders(9, "a blank message with the field 0000");
+    put(packet_at(0) + 22, 0xFFFF);
+    in_orders(0, "and with FFFF");
+}
+
+/* What can be wrong with two fragments of a UDP message of 16 bytes, in the order of the refusals; those of the first
+ * header, those of the second, and then all else. */
+enum misfit {
+    NO_LIST, TOO_MANY, RECORD_OUTSIDE, FIRST_HEAD, SECOND_HEAD = FIRST_HEAD + HEADINGS,
+    ANOTHER = SECOND_HEAD + HEADINGS, HOLLOW, BEYOND, LATE, STILL_MORE, UNCOVERED, NO_HEADER, LENGTH_PAST, SILENT,
+    WRONG, MISFITS
+};
+
+static unsigned refused_as(enum misfit i)
+{
+    static const unsigned others[] = {4, 4, 4, 6, 6, 7, 4, 4, 1, 9};
+    return i == NO_LIST     ? 2
+           : i < FIRST_HEAD ? 10
+           : i < ANOTHER    ? headed[(i - FIRST_HEAD) % HEADINGS]
+                            : others[i - ANOTHER];
+}
+
+/* Two fragments with a set of these. */
+static unsigned misfitting(uint32_t faults)
+{
+    good_four(17, 16);
+    if (faults >> LENGTH_PAST & 1)
+        put(p + 24, 17);
+    if (faults >> SILENT & 1)
+        put(p + 26, 0);
+    p[35] ^= faults >> WRONG & 1;
+    p[9] = faults >> UNCOVERED & 1 ? 58 : faults >> NO_HEADER & 1 ? 6 : 17;
+    cut_by(8, 0, 0);
+    if (faults >> STILL_MORE & 1)
+        reword(1, 6, 0x2001);
+    if (faults >> LATE & 1)
+        reword(1, 6, 2);
+    if (faults >> BEYOND & 1)
+        reword(1, 6, 8191);
+    if (faults >> HOLLOW & 1)
+        reword(1, 2, 20);
+    if (faults >> ANOTHER & 1)
+        reword(1, 4, 0x0908);
+    /* of two in one header the first is made last, so that it stands */
+    for (unsigned i = HEADINGS; i-- > 0;) {
+        if (faults >> (FIRST_HEAD + i) & 1)
+            head(0, i);
+        if (faults >> (SECOND_HEAD + i) & 1)
+            head(1, i);
+    }
+    if (faults >> RECORD_OUTSIDE & 1)
+        list[listed++] = (struct hifrostum_fragment){held, 1};
+    while (faults >> TOO_MANY & 1 && listed <= MOST)
+        list[listed++] = list[0];
+    listed = faults >> NO_LIST & 1 ? 0 : listed;
+    return judge_yard();
+}
+
+/* Each, each two, and each with all that come later: the first decides. */
+static void misfits_in_order(void)
+{
+    expect(misfitting(0), 0, "no fault");
+    for (unsigned early = 0; early < MISFITS; early++) {
+        for (unsigned late = early; late < MISFITS; late++)
+            expect(misfitting(1u << early | 1u << late), refused_as(early), "one fault of fragments, or two");
+        expect(misfitting((1u << MISFITS) - (1u << early)), refused_as(early), "a fault and all that come later");
+    }
+}
+
+static uint32_t state = 1;
+
+static size_t any(size_t below)
+{
+    state = state * 1664525 + 1013904223;
+    return (state >> 8) % below;
+}
+
+/* Cuts p anywhere, into at most 64 pieces, in any order. */
+static void cut_anywhere(void)
+{
+    size_t len = message_of(p), at = 0, pieces = 1 + any(12), most = len / pieces / 4 + 1;
+    held = listed = 0;
+    while (at < len) {
+        size_t to = listed == MOST - 1 ? len : at + 8 * (1 + any(most));
+        to = to < len ? to : len;
+        lay(at, to, to - at > 60000 ? 0 : any(11) * 4 * (any(3) == 0), any(3));
+        at = to;
+    }
+    for (size_t i = listed; i > 1; i--)
+        swap(i - 1, any(i));
+}
+
+/* One bit of a fragment's message, or of its header, is damaged. The message then has the verdict of the whole packet
+ * with that damage; a header has its own, or 3 for version 6. */
+static void damage(size_t len)
+{
+    size_t i = any(listed), header = start_of(packet_at(i)), bit = any(8);
+    size_t at = any(word(packet_at(i) + 2)), from = 8u * (word(packet_at(i) + 6) & 0x1FFF);
+    packet_at(i)[at] ^= (uint8_t)(1 << bit);
+    if (at < header) {
+        uint8_t *packet = packet_at(i);
+        unsigned own = packet[0] >> 4 == 6 ? 3 : judge(packet, list[i].length);
+        check(own >= 2 && own <= 5, "a damaged header is seen");
+        expect(judge_yard(), own, "one bit of a header damaged");
+    } else {
+        memcpy(q, p, len);
+        q[20 + from + at - header] ^= (uint8_t)(1 << bit);
+        unsigned whole = judge(q, len);
+        int tail = q[9] == 17 && from + at - header >= word(q + 24);
+        check(tail || whole != 0, "a damaged message is seen");
+        expect(judge_yard(), whole, "one bit of a message damaged");
+    }
+    packet_at(i)[at] ^= (uint8_t)(1 << bit);
+}
+
+/* One fragment left out, doubled, or exchanged for that of another packet at the same place: of another identification,
+ * and of the same, where the message has the verdict of the whole packet with those bytes. */
+static void exchange_one(size_t len)
+{
+    size_t i = any(listed), header = start_of(packet_at(i)), from = 8u * (word(packet_at(i) + 6) & 0x1FFF);
+    size_t size = word(packet_at(i) + 2) - header, all = listed;
+    list[listed++] = list[i];
+    expect(judge_yard(), listed > MOST ? 10 : 6, "one doubled");
+    listed = all;
+    swap(i, --listed);
+    expect(judge_yard(), all == 1 ? 2 : 6, "one left out");
+    swap(i, listed++);
+    memcpy(q, p, len);
+    for (size_t j = from; j < from + size; j++)
+        q[20 + j] = (uint8_t)(j * 59 + 7);
+    memcpy(packet_at(i) + header, q + 20 + from, size);
+    expect(judge_yard(), judge(q, len), "one exchanged, of the same identification");
+    reword(i, 4, word(p + 4) ^ 0x0100);
+    if (all > 1)
+        expect(judge_yard(), 4, "one exchanged, of another identification");
+}
+
+/* Messages of each protocol and of many lengths, without a sum or with a tail inside too, in pieces. */
+static void anyhow(void)
+{
+    static const size_t longest[] = {40, 200, 1500, 8000};
+    for (size_t i = 0; i < 3 * 500; i++) {
+        size_t message = 20 + any(longest[i / 3 % 4]), len = packet_of(p, 4, each[i % 3].protocol, message);
+        if (i >= 1490)
+            len = packet_of(p, 4, each[i % 3].protocol, message = 65515 - any(5));
+        for (size_t j = 40; j < len; j++)
+            p[j] = (uint8_t)any(256);
+        p[4] = (uint8_t)any(256);
+        if (i % 3 == 2 && any(3) == 0)
+            put(p + 24, 8 + any(message - 7));
+        freshen(p);
+        if (i % 3 == 2 && any(6) == 0)
+            put(p + 26, 0);
+        unsigned verdict = i % 3 == 2 && word(p + 26) == 0 ? 1 : 0;
+        expect(judge(p, len), verdict, "a whole packet");
+        cut_anywhere();
+        expect(judge_yard(), verdict, "its fragments");
+        reverse();
+        expect(judge_yard(), verdict, "and in the other order");
+        damage(len);
+        damage(len);
+        expect(judge_yard(), verdict, "its fragments again");
+        exchange_one(len);
+    }
+}
+
 static void captures(void)
 {
     static uint8_t verdicts[9];
@@ -2113,6 +2848,22 @@ int main(void)
     other_versions();
     faults_in_order();
     group("exchange_prefix");
+    two_fragments();
+    records_outside();
+    counts();
+    headings();
+    shared();
+    ends();
+    filling();
+    uneven();
+    in_another();
+    all_cuts();
+    datagrams_in_fragments();
+    headers_apart();
+    misfits_in_order();
+    group("judge_fragments");
+    anyhow();
+    group("judge_fragments of messages cut anywhere");
     captures();
     long_capture();
     group("judge_capture");

@@ -5,9 +5,9 @@
  * The block that is summed has BLOCK bytes, and the chain CHAIN or a few more: over 2^32, or fewer in an
  * emulator. LIST is 1 if a chain of 2^64 bytes is tried too, and 0 if its long list would take too long.
  *
- * Packets, addresses, prefixes and captures lie before memory that can't be touched: with a length of
- * more than 2^32 a call that looked at a byte behind them would end the program. Each such length is
- * chosen so that its low 32 bits would give another answer.
+ * Packets, addresses, prefixes, captures, fragments and their list lie before memory that can't be
+ * touched: with a length of more than 2^32 a call that looked at a byte behind them would end the
+ * program. Each such length is chosen so that its low 32 bits would give another answer.
  */
 #define _GNU_SOURCE
 #include <stdio.h>
@@ -152,6 +152,48 @@ static void headers_between(void)
     }
 }
 
+/* The rules' UDP packet as two fragments, of 8 bytes and 2. A tail that can't be touched follows the second; the low 32
+ * bits of its record's length say 0, 21 or 22 bytes, and those of the buffer's that the second doesn't fit. Then both
+ * lie around 2^32. A list of 2^16 + 2 records, of which the first two are these, has too many. */
+static void fragments(void)
+{
+    static const uint8_t two[50] = {
+        0x45, 0, 0, 0x1C, 0, 0, 0x20, 0, 0x40, 0x11, 0xD8, 0xB8, 0xC0, 0xA8, 0, 1, 0xC0, 0xA8, 0, 0xC7,
+        0x13, 0x88, 0x13, 0x89, 0, 0x0A, 0x0E, 0x47,
+        0x45, 0, 0, 0x16, 0, 0, 0, 1, 0x40, 0x11, 0xF8, 0xBD, 0xC0, 0xA8, 0, 1, 0xC0, 0xA8, 0, 0xC7, 0x48, 0x69,
+    };
+    static const size_t tails[] = {0, 21, 22};
+    static struct hifrostum_fragment many[65536 + 2];
+    uint8_t *p = before_wall(50), *map = reserve(over + PAGE), *lent = before_wall(2 * sizeof *many);
+    struct hifrostum_fragment *list = (struct hifrostum_fragment *)lent;
+    memcpy(p, two, 50);
+    for (size_t i = 0; i < 2 * 3; i++) {
+        size_t which = i % 2, length = over + tails[i / 2];
+        list[1 - which] = (struct hifrostum_fragment){0, 28};
+        list[which] = (struct hifrostum_fragment){28, length};
+        expect(hifrostum_judge_fragments(p, 28 + length, list, 2), 0, "two fragments, one with a tail");
+        expect(hifrostum_judge_fragments(p, 27 + length, list, 2), 10, "a record one byte too long");
+        expect(hifrostum_judge_fragments(p, over, list, 2), 10, "or more than that");
+        memcpy(many, list, 2 * sizeof *list);
+        expect(hifrostum_judge_fragments(p, 28 + length, many, 65536 + 2), 10, "2^16 + 2 records");
+        p[49] ^= 1;
+        expect(hifrostum_judge_fragments(p, 28 + length, list, 2), 9, "two fragments, one damaged");
+        p[49] ^= 1;
+        list[which] = (struct hifrostum_fragment){over + 28, 22};
+        expect(hifrostum_judge_fragments(p, 50, list, 2), 10, "a record at 2^32 + 28");
+    }
+    allow(map + over - PAGE, 2 * PAGE, PROT_READ | PROT_WRITE);
+    memcpy(map + over - 24, two, 50);
+    list[0] = (struct hifrostum_fragment){over + 4, 22};
+    list[1] = (struct hifrostum_fragment){over - 24, 28};
+    expect(hifrostum_judge_fragments(map, over + 26, list, 2), 0, "two fragments around 2^32");
+    expect(hifrostum_judge_fragments(map, over + 25, list, 2), 10, "a buffer of one byte less");
+    map[over + 2] ^= 1;
+    expect(hifrostum_judge_fragments(map, over + 26, list, 2), 9, "a damaged field behind 2^32");
+    map[over + 4 + 8] ^= 1;
+    expect(hifrostum_judge_fragments(map, over + 26, list, 2), 5, "a damaged header behind 2^32");
+}
+
 /* A capture whose first record is too long. The low 32 bits say 5 bytes: no record. */
 static void captures(void)
 {
@@ -287,6 +329,7 @@ int main(int argc, char **argv)
     }
     packets();
     headers_between();
+    fragments();
     captures();
     chains();
     block(len);

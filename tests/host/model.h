@@ -1,12 +1,15 @@
 /* A model of the rules for packets whose IP header and declared length are right: over IPv6 a walk past the headers
  * between, and the rules paper's formulas over the covered block, which is laid out whole, pseudo-header first, and
- * summed byte by byte. It finds each message from the packet's bytes alone, and never asks the library. It counts
- * how often it takes the rare branches. */
+ * summed byte by byte. It finds each message from the packet's bytes alone, and never asks the library. Fragments,
+ * whose headers may be wrong in any way, are put together into one packet, which is judged. It counts how often it
+ * takes the rare branches. */
 #ifndef MODEL_H
 #define MODEL_H
 
 #include <stdint.h>
 #include <string.h>
+
+#include "hifrostum.h"
 
 enum { ICMP = 1, TCP = 6, UDP = 17, ICMP6 = 58, ROOM = 65700 };
 enum { HOP_BY_HOP = 0, ROUTING = 43, FRAGMENT = 44, OPTIONS = 60 };
@@ -79,6 +82,60 @@ enum branch {
     BETWEEN_NAMED,  /* or with what the fixed header names as its protocol */
     BETWEEN_ROUTED, /* or with the last address of a routing header as its destination */
     BETWEEN_OUT,    /* a message passes that wouldn't in any of these ways */
+    LIST_EMPTY,     /* there are no fragments */
+    LIST_MANY,      /* there are more than 64 */
+    LIST_OUTSIDE,   /* a record passes the buffer's end */
+    LIST_WRAPS,     /* and its offset and length together, in 64 bits, don't */
+    LIST_FIRST,     /* and a record before it has a header that is refused */
+    HEAD_EMPTY,     /* a record has no bytes */
+    HEAD_SIX,       /* or is IPv6 */
+    HEAD_VERSION,   /* or of yet another version */
+    HEAD_SHORT,     /* or has under 20 bytes */
+    HEAD_WORDS,     /* or a header length under 5 words */
+    HEAD_TOTAL,     /* or a total length below that */
+    HEAD_CUT,       /* or fewer bytes than declared */
+    HEAD_SUM,       /* or a header that doesn't pass */
+    HEAD_LATER,     /* and a later record would be refused with another number */
+    HEAD_APART,     /* and those before it can't be of one packet */
+    APART_SOURCE,   /* fragments can't be of one packet, by their source alone */
+    APART_TARGET,   /* or by their destination alone */
+    APART_PROTOCOL, /* or by their protocol alone */
+    APART_NUMBER,   /* or by their identification alone */
+    APART_EMPTY,    /* or since one is empty */
+    APART_PAST,     /* or since one ends past byte 65,515 */
+    APART_UNFILLED, /* and don't fill a message either */
+    FILL_LATE,      /* fragments lack the message's first bytes, and nothing else is wrong with them */
+    FILL_GAP,       /* or others */
+    FILL_OVERLAP,   /* or two have a byte in common */
+    FILL_TWICE,     /* or one is there twice */
+    FILL_MORE,      /* or the last has more-fragments set */
+    FILL_CLEAR,     /* or another has it clear */
+    FILL_EIGHTH,    /* one that isn't the last has a length that doesn't divide by 8 */
+    JOINED_ONE,     /* a message is judged that came whole */
+    JOINED_MOST,    /* or in 64 fragments */
+    JOINED_LONGEST, /* or ends at byte 65,515 */
+    JOINED_ORDER,   /* or whose records aren't in order */
+    JOINED_INSIDE,  /* or overlap in the buffer */
+    JOINED_TAIL,    /* or whose fragments have tails of their own */
+    JOINED_OPTIONS, /* or headers of different lengths */
+    JOINED_FLAGS,   /* or other flags, lifetimes and service bytes than the first */
+    JOINED_OTHER,   /* its protocol isn't covered */
+    JOINED_SHORT,   /* it is shorter than its fixed header */
+    JOINED_LENGTH,  /* TCP's data offset or UDP's length doesn't fit it */
+    JOINED_FITS,    /* and they fit, but wouldn't fit the first fragment */
+    JOINED_SILENT,  /* it has no sum */
+    JOINED_ZERO,    /* it passes with the field 0000 */
+    JOINED_FULL,    /* and with FFFF */
+    JOINED_BLANK,   /* it doesn't pass, since there are only zeros */
+    JOINED_FIRST,   /* or would pass with the first fragment's length in its pseudo-header */
+    JOINED_SECOND,  /* TCP's data offset doesn't stand in the first fragment */
+    JOINED_THIRD,   /* nor does its field, nor where that is */
+    ENDS_INSIDE,    /* a datagram ends inside a fragment that isn't the last, and passes */
+    ENDS_ODD,       /* and its length is odd */
+    ENDS_BETWEEN,   /* it ends where a fragment does that isn't the last, and passes */
+    ENDS_LENGTH,    /* it doesn't pass, and would with the message's length in its pseudo-header */
+    ENDS_SUMMED,    /* or with the tail summed */
+    ENDS_BOTH,      /* or with both */
     BRANCHES
 };
 static unsigned long met[KINDS][BRANCHES];
@@ -530,6 +587,266 @@ static unsigned set_stretch(struct packet *p, size_t place, const uint8_t *new, 
     renew_message(p, (size_t)(at - p->bytes) - p->header, at, new, len);
     memcpy(at, new, len);
     return 0;
+}
+
+/* Fragments */
+
+enum { MOST = 64, LONGEST_MESSAGE = 65515 };
+
+/* What the header of a fragment says: where in the message its bytes begin, how many there are, and whether more
+ * follow. */
+static struct part {
+    const uint8_t *packet, *bytes;
+    size_t at, len;
+    int more;
+} parts[MOST];
+
+/* Counts a branch of fragments that were built as a kind of packet. */
+static void meet_parts(const struct kind *built, enum branch branch, int taken)
+{
+    met[built - kinds][branch] += comparing && taken && built->family == 4;
+}
+
+/* The first refusal of a record by its header, where only IPv4 is taken, and which branch that is. */
+static unsigned refused_head(const uint8_t *packet, size_t len, enum branch *branch)
+{
+    if (len == 0)
+        return *branch = HEAD_EMPTY, 2;
+    if (packet[0] >> 4 != 4)
+        return *branch = packet[0] >> 4 == 6 ? HEAD_SIX : HEAD_VERSION, 3;
+    if (len < 20)
+        return *branch = HEAD_SHORT, 2;
+    size_t header = 4u * (packet[0] & 15), declared = word(packet + 2);
+    if (header < 20)
+        return *branch = HEAD_WORDS, 4;
+    if (declared < header)
+        return *branch = HEAD_TOTAL, 4;
+    if (declared > len)
+        return *branch = HEAD_CUT, 2;
+    return *branch = HEAD_SUM, passes(total(packet, header)) ? 0 : 5;
+}
+
+/* The list itself: how many records there are, and whether each lies in the buffer. */
+static unsigned refused_list(const struct kind *built, const uint8_t *buffer, size_t len,
+                             const struct hifrostum_fragment *list, size_t count)
+{
+    int outside = 0, wraps = 1, first = 0;
+    enum branch branch;
+    meet_parts(built, LIST_EMPTY, count == 0);
+    meet_parts(built, LIST_MANY, count > MOST);
+    if (count == 0 || count > MOST)
+        return count == 0 ? 2 : 10;
+    for (size_t i = 0; i < count; i++)
+        if (list[i].offset > len || list[i].length > len - list[i].offset) {
+            outside = 1;
+            wraps &= list[i].offset + list[i].length <= len;
+        } else
+            first |= !outside && refused_head(buffer + list[i].offset, list[i].length, &branch);
+    meet_parts(built, LIST_OUTSIDE, outside);
+    meet_parts(built, LIST_WRAPS, outside && wraps);
+    meet_parts(built, LIST_FIRST, outside && first);
+    return outside ? 10 : 0;
+}
+
+/* Whether the parts don't fill a message. Each byte up to the last that any part has must be had by one. The last part
+ * is the one that begins last. Counts branches if asked to. */
+static int unfilled(const struct kind *built, size_t count, int counts)
+{
+    static uint8_t had[2 * 65536];
+    size_t end = 0, last = 0;
+    int gap = 0, overlap = 0, twice = 0, clear = 0, eighth = 0;
+    for (size_t i = 0; i < count; i++) {
+        end = parts[i].at + parts[i].len > end ? parts[i].at + parts[i].len : end;
+        last = parts[i].at > parts[last].at ? i : last;
+    }
+    memset(had, 0, end);
+    for (size_t i = 0; i < count; i++) {
+        clear |= i != last && !parts[i].more;
+        eighth |= i != last && parts[i].len % 8 != 0;
+        for (size_t j = 0; j < i; j++)
+            twice |= parts[i].at == parts[j].at && parts[i].len == parts[j].len;
+        for (size_t j = 0; j < parts[i].len; j++)
+            had[parts[i].at + j] += had[parts[i].at + j] < 2;
+    }
+    size_t start = 0;
+    while (start < end && had[start] == 0)
+        start++;
+    for (size_t i = start; i < end; i++) {
+        gap |= had[i] == 0;
+        overlap |= had[i] == 2;
+    }
+    int late = start > 0, more = parts[last].more, faults = late + gap + overlap + clear + eighth + more;
+    if (counts) {
+        meet_parts(built, FILL_LATE, late && faults == 1);
+        meet_parts(built, FILL_GAP, gap && faults == 1);
+        meet_parts(built, FILL_OVERLAP, overlap && !twice && faults == 1);
+        meet_parts(built, FILL_TWICE, twice && faults == 1);
+        meet_parts(built, FILL_MORE, more && faults == 1);
+        meet_parts(built, FILL_CLEAR, clear && faults == 1);
+        meet_parts(built, FILL_EIGHTH, eighth);
+    }
+    return faults != 0;
+}
+
+/* Whether the parts can't be of one packet: they differ in what all must share, one is empty, or one ends late. */
+static unsigned apart(const struct kind *built, size_t count)
+{
+    enum { REASONS = 6 };
+    int reasons[REASONS] = {0}, all = 0;
+    for (size_t i = 0; i < count; i++) {
+        const uint8_t *own = parts[i].packet, *other = parts[0].packet;
+        reasons[0] |= memcmp(own + 12, other + 12, 4) != 0;
+        reasons[1] |= memcmp(own + 16, other + 16, 4) != 0;
+        reasons[2] |= own[9] != other[9];
+        reasons[3] |= word(own + 4) != word(other + 4);
+        reasons[4] |= parts[i].len == 0;
+        reasons[5] |= parts[i].at + parts[i].len > LONGEST_MESSAGE;
+    }
+    for (int i = 0; i < REASONS; i++)
+        all += reasons[i];
+    for (int i = 0; i < REASONS; i++)
+        meet_parts(built, (enum branch)(APART_SOURCE + i), reasons[i] && all == 1);
+    meet_parts(built, APART_UNFILLED, all && unfilled(built, count, 0));
+    return all ? 4 : 0;
+}
+
+/* Whether the list isn't in the order of the message, records overlap in the buffer, and how headers differ. */
+static void meet_list(const struct kind *built, const struct hifrostum_fragment *list, size_t count)
+{
+    int order = 0, inside = 0, tail = 0, options = 0, flags = 0;
+    for (size_t i = 0; i < count; i++) {
+        const uint8_t *own = parts[i].packet, *other = parts[0].packet;
+        order |= i > 0 && parts[i].at < parts[i - 1].at;
+        tail |= list[i].length > word(own + 2);
+        options |= (own[0] & 15) != (other[0] & 15);
+        flags |= own[1] != other[1] && own[8] != other[8] && own[6] >> 6 != other[6] >> 6;
+        for (size_t j = 0; j < i; j++)
+            inside |= list[i].offset < list[j].offset + list[j].length &&
+                      list[j].offset < list[i].offset + list[i].length;
+    }
+    meet_parts(built, JOINED_ONE, count == 1);
+    meet_parts(built, JOINED_MOST, count == MOST);
+    meet_parts(built, JOINED_ORDER, order);
+    meet_parts(built, JOINED_INSIDE, inside);
+    meet_parts(built, JOINED_TAIL, tail);
+    meet_parts(built, JOINED_OPTIONS, options);
+    meet_parts(built, JOINED_FLAGS, flags);
+}
+
+/* Which part has a byte of the message. */
+static size_t part_with(size_t place, size_t count)
+{
+    size_t i = 0;
+    while (i < count && (place < parts[i].at || place >= parts[i].at + parts[i].len))
+        i++;
+    return i;
+}
+
+/* Looks which branches the whole message takes, which has this verdict. */
+static void meet_joined(const struct kind *built, struct packet *whole, size_t count, unsigned verdict)
+{
+    size_t len = message_len(whole), first = parts[part_with(0, count)].len, fixed = built->fixed;
+    unsigned protocol = whole->bytes[9];
+    meet_parts(built, JOINED_LONGEST, len == LONGEST_MESSAGE);
+    meet_parts(built, JOINED_OTHER, verdict == 7);
+    if (protocol != built->protocol)
+        return;
+    meet_parts(built, JOINED_SHORT, len < fixed);
+    meet_parts(built, JOINED_LENGTH, verdict == 4 && len >= fixed);
+    if (verdict == 4)
+        return;
+    size_t said = protocol == TCP ? body_of(whole) - whole->header : covered_len(whole);
+    unsigned long sum = message_total(whole);
+    meet_parts(built, JOINED_FITS, protocol != ICMP && said > first);
+    meet_parts(built, JOINED_SILENT, verdict == 1);
+    meet_parts(built, JOINED_ZERO, verdict == 0 && word(field_of(whole)) == 0);
+    meet_parts(built, JOINED_FULL, verdict == 0 && word(field_of(whole)) == 0xFFFF);
+    meet_parts(built, JOINED_BLANK, verdict == 9 && sum == 0);
+    meet_parts(built, JOINED_FIRST, verdict == 9 && protocol != ICMP && passes(sum - covered_len(whole) + first));
+    meet_parts(built, JOINED_SECOND, verdict == 0 && protocol == TCP && part_with(12, count) != part_with(0, count));
+    meet_parts(built, JOINED_THIRD, verdict == 0 && protocol == TCP && first == 8 &&
+                                        part_with(16, count) != part_with(12, count));
+    if (!built->tail || protocol != UDP || said == len)
+        return;
+    size_t end = part_with(said - 1, count), next = part_with(said, count);
+    int early = parts[end].at + parts[end].len < len;
+    meet_parts(built, ENDS_INSIDE, verdict == 0 && early && end == next);
+    meet_parts(built, ENDS_ODD, verdict == 0 && early && end == next && said % 2 == 1);
+    meet_parts(built, ENDS_BETWEEN, verdict == 0 && end != next);
+    for (enum how how = LENGTH; how <= BOTH; how++)
+        meet_parts(built, (enum branch)(ENDS_LENGTH + how - LENGTH), verdict == 9 && passes(total_read(whole, how)));
+}
+
+/* Puts the parts together: a packet with a header of 20 bytes, and behind it the message. */
+static void join(const struct kind *built, struct packet *whole, size_t count)
+{
+    whole->built = whole->kind = built;
+    whole->placed = whole->header = 20;
+    whole->tail = 0;
+    whole->len = 20;
+    memcpy(whole->bytes, parts[0].packet, 20);
+    for (size_t i = 0; i < count; i++) {
+        memcpy(whole->bytes + 20 + parts[i].at, parts[i].bytes, parts[i].len);
+        whole->len += parts[i].len;
+    }
+    whole->bytes[0] = 0x45;
+    put(whole->bytes + 2, whole->len);
+    put(whole->bytes + 6, 0);
+    put(whole->bytes + 10, 0);
+    put(whole->bytes + 10, 65535 - fold(total(whole->bytes, 20)));
+}
+
+/* The first refusal of a record by its header, in list order. The records before that become parts. */
+static unsigned refused_heads(const struct kind *built, const uint8_t *buffer, const struct hifrostum_fragment *list,
+                              size_t count)
+{
+    int counted = comparing;
+    enum branch branch, later;
+    for (size_t i = 0; i < count; i++) {
+        const uint8_t *packet = buffer + list[i].offset;
+        unsigned refusal = refused_head(packet, list[i].length, &branch), other;
+        if (refusal) {
+            comparing = 0;
+            other = i > 0 && apart(built, i);
+            comparing = counted;
+            meet_parts(built, branch, 1);
+            meet_parts(built, HEAD_APART, other != 0);
+            for (size_t j = i + 1; j < count; j++) {
+                other = refused_head(buffer + list[j].offset, list[j].length, &later);
+                meet_parts(built, HEAD_LATER, other && other != refusal);
+            }
+            return refusal;
+        }
+        size_t header = 4u * (packet[0] & 15);
+        parts[i] = (struct part){packet, packet + header, 8u * (word(packet + 6) & 0x1FFF), word(packet + 2) - header,
+                                 (packet[6] & 0x20) != 0};
+    }
+    return 0;
+}
+
+/* Judges fragments that were built as a kind of packet. The branches that the whole packet takes in the judge aren't
+ * counted for that call. */
+static unsigned judge_fragments(const struct kind *built, const uint8_t *buffer, size_t len,
+                                const struct hifrostum_fragment *list, size_t count)
+{
+    static struct packet whole;
+    int counted = comparing;
+    unsigned refusal = refused_list(built, buffer, len, list, count);
+    if (refusal == 0)
+        refusal = refused_heads(built, buffer, list, count);
+    if (refusal == 0)
+        refusal = apart(built, count);
+    if (refusal)
+        return refusal;
+    if (unfilled(built, count, 1))
+        return 6;
+    join(built, &whole, count);
+    comparing = 0;
+    unsigned verdict = judge(&whole);
+    comparing = counted;
+    meet_list(built, list, count);
+    meet_joined(built, &whole, count, verdict);
+    return verdict;
 }
 
 #endif

@@ -19,6 +19,7 @@ from apart import BY_KERNEL, SAID, apart
 from between import TYPES, hand_put, long_put, missummed, scapy_put, unread
 from exchange import check_all_exchanged, print_exchanged, ways_between
 from fragments import Fragment, is_fragment, messages
+from gathered import check_all_gathered, print_gathered
 from headers import HOP, OPTIONS, ROUTING, routing, with_headers
 from judges import (
     FRAGMENT, GOOD, HEADER_SUM, MESSAGE_SUM, MISSING, OURS, SENT, SHAPE, UNCOVERED, UNSUMMED, Packet, addressed, asked,
@@ -703,9 +704,11 @@ def main():
     between = [data for data in sent + kernel_made(folder + "/between.pcap") if has_headers(data)]
     check_all_between(made, between, pairs, post)
     check_all_exchanged([data for data in made if not Packet(data).four], folder, ways, post, middle, npt)
+    check_all_gathered(folder, pairs, post)
     differ = report()
     print_sides()
     print_exchanged()
+    print_gathered()
     print(f"interop: {differ} disagreements")
     return 1 if differ else 0
 

@@ -1,18 +1,19 @@
 /* Calls the library for the interop test: requests on standard input, answers on standard output.
  *
  * A request is a letter (j judge, m mend, l lower lifetime, a set address, s set stretch, x exchange
- * prefix, c sum a chain, p sum piece by piece and join), a number (side or place), new bytes (for x the
- * expected prefix and the new one, for c and p the list of pieces) and a packet; an answer is a verdict
- * number and the packet (for c and p the fold and the length in its place). Numbers are 32-bit, high byte
- * first, and bytes come after their number. With the word live each answer is out before the next request
- * is awaited. */
+ * prefix, c sum a chain, p sum piece by piece and join, f judge fragments), a number (side or place), new
+ * bytes (for x the expected prefix and the new one, for c and p the list of pieces, for f the list of
+ * records) and a packet (for f the buffer); an answer is a verdict number and the packet (for c and p the
+ * fold and the length in its place). Numbers are 32-bit, a record's two are 64-bit, high byte first, and
+ * bytes come after their number. With the word live each answer is out before the next request is
+ * awaited. */
 #include <stdio.h>
 #include <stdlib.h>
 #include <string.h>
 
 #include "hifrostum.h"
 
-enum { LONGEST = 1 << 16 };
+enum { LONGEST = 1 << 17 };
 
 /* Stops: the test sent what is no request, or has gone. */
 static void stop(const char *why)
@@ -75,6 +76,24 @@ static uint8_t exchange(uint8_t *packet, size_t len, uint32_t side, const uint8_
     return hifrostum_exchange_prefix(packet, len, side, both, size, both + size, size);
 }
 
+static size_t place(const uint8_t *at)
+{
+    size_t value = 0;
+    for (int i = 0; i < 8; i++)
+        value = value << 8 | at[i];
+    return value;
+}
+
+/* Judges the fragments of a buffer that a list of records names. */
+static uint8_t fragments(const uint8_t *buffer, size_t len, const uint8_t *list, size_t list_len)
+{
+    static struct hifrostum_fragment records[LONGEST / 16];
+    size_t count = list_len / 16;
+    for (size_t i = 0; i < count; i++, list += 16)
+        records[i] = (struct hifrostum_fragment){place(list), place(list + 8)};
+    return hifrostum_judge_fragments(buffer, len, records, count);
+}
+
 int main(int argc, char **argv)
 {
     static uint8_t new[LONGEST], packet[LONGEST];
@@ -92,6 +111,7 @@ int main(int argc, char **argv)
         case 'x': verdict = exchange(packet, len, where, new, new_len); break;
         case 'c':
         case 'p': verdict = sum(letter == 'p', new, new_len, packet, &len); break;
+        case 'f': verdict = fragments(packet, len, new, new_len); break;
         default: stop("no such letter");
         }
         uint8_t head[5] = {verdict};

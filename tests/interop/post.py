@@ -1,5 +1,5 @@
 """The other kernel as a judge: hands it packets as they are, from one network namespace to another. Post does so with
-UDP, straight, and Way with all that goes through our relay.
+UDP, straight, and with fragments of all that it puts together; Way with all that goes through our relay.
 
 They have sockets in both, so that one process sees all, and send from one processor, whose queue keeps the order: what
 came before the mark that follows a packet is of that packet, and nothing else of it comes later.
@@ -15,6 +15,9 @@ HERE = {4: "10.99.0.1", 6: "fd99::1"}  # as run.sh gives them
 THERE = {4: "10.99.0.2", 6: "fd99::2"}
 TYPES = {4: 0x0800, 6: 0x86DD}
 PROTOCOLS = [6, 17, 58]
+MESSAGES = ["Tcp:OutRsts", "Icmp:InEchos"]  # the answer to a good segment for a closed port, and good echoes
+REFUSED = ["Udp:InErrors", "Tcp:InErrs", "Icmp:InErrors"]
+WRONG = ["Udp:InCsumErrors", "Tcp:InCsumErrors", "Icmp:InCsumErrors"]  # of the refused
 COUNTED = ["Tcp:", "Udp6", "Icmp6"]  # what the kernel's counts of these are called; TCP's are of both families
 
 
@@ -101,20 +104,42 @@ class Post:
         else:
             self.card.sendto(data, (CARD, TYPES[family], 0, 0, self.address))
 
-    def sent(self, data, raw):
-        """What the socket gets of a packet, and by how much the two counts grow."""
-        before, got = self.counted(), []
+    def got(self):
+        """What the socket gets before the mark that follows."""
+        found = []
         self.marks += 1
         mark = b"that was packet %d" % self.marks
-        self.send(data, raw)
         self.marking.sendto(mark, (THERE[6], PORT))
         while (came := self.box.recv(65536)) != mark:
-            got.append(came)
-        return got, *(now - then for now, then in zip(self.counted(), before))
+            found.append(came)
+        return found
+
+    def sent(self, data, raw):
+        """What the socket gets of a packet, and by how much the two counts grow."""
+        before = self.counted()
+        self.send(data, raw)
+        return self.got(), *(now - then for now, then in zip(self.counted(), before))
 
     def all_sent(self, packets):
         with one_processor():
             return [self.sent(data, raw) for data, raw in packets]
+
+    def counted_together(self):
+        """How many messages the other kernel has taken besides datagrams, how many it has refused, and how many of
+        these for their sum."""
+        found = counts(self.files)
+        return [sum(found[name] for name in names) for names in (MESSAGES, REFUSED, WRONG)]
+
+    def sent_together(self, fragments):
+        """What the socket gets of fragments that come in this order, and by how much the three counts grow."""
+        before = self.counted_together()
+        for data in fragments:
+            self.send(data, False)
+        return self.got(), *(now - then for now, then in zip(self.counted_together(), before))
+
+    def all_together(self, sets):
+        with one_processor():
+            return [self.sent_together(fragments) for fragments in sets]
 
 
 class Way:

@@ -33,7 +33,10 @@ $x86 cc -O2 -std=c11 -Wall -Wextra -Wpedantic -Werror -Iinclude tests/interop/ou
 # our relay takes what comes at one card to the other (net 98). All cards leave the sums to the kernel. Those of the
 # first way take 4,000 bytes, so that the longest header between has room, and those of the second 1,280, as few as IPv6
 # allows. Routing headers of type 4 are for kernels that are told to take them. A fourth namespace, k, forwards between
-# two more cards of m: to prefixes inside by the first, and to all others by the second.
+# two more cards of m: to prefixes inside by the first, and to all others by the second. And it forwards IPv4 on a third
+# way between a and b (net 97): its routes take 576 bytes and the cards 4,000, so it cuts what comes, also what a kernel
+# had cut before, since no end looks for a path's limit where its own route's is locked. b keeps many fragments that
+# lack others.
 a=hifrostum-a-$$ b=hifrostum-b-$$ m=hifrostum-m-$$ k=hifrostum-k-$$ server='' capture='' relay=''
 clean() {
     for process in $server $capture $relay; do
@@ -69,9 +72,17 @@ for ns in $a $b; do
     for card in all card far; do
         ip netns exec "$ns" sh -c "echo 1 >/proc/sys/net/ipv6/conf/$card/seg6_enabled"
     done
+    ip link add wide mtu 4000 netns "$ns" type veth peer name wide$number mtu 4000 netns $k
+    ip -n "$ns" addr add 10.97.$number.$number/24 dev wide
+    ip -n $k addr add 10.97.$number.9/24 dev wide$number noprefixroute
+    start "$ns" wide
+    start $k wide$number
+    ip -n $k route add 10.97.$number.0/24 dev wide$number mtu 576
+    ip -n "$ns" route add 10.97.0.0/16 via 10.97.$number.9 mtu lock 4000
     number=$((number + 1))
 done
-ip netns exec $k sh -c 'echo 1 >/proc/sys/net/ipv6/conf/all/forwarding'
+ip netns exec $b sh -c 'echo 268435456 >/proc/sys/net/ipv4/ipfrag_high_thresh'
+ip netns exec $k sh -c 'echo 1 >/proc/sys/net/ipv4/ip_forward; echo 1 >/proc/sys/net/ipv6/conf/all/forwarding'
 for card in in out; do
     ip link add $card mtu 4000 netns $m type veth peer name $card mtu 4000 netns $k
     ip netns exec $m sh -c "echo 1 >/proc/sys/net/ipv6/conf/$card/disable_ipv6" # the ends themselves say nothing
@@ -103,9 +114,9 @@ wait_for() { # FILE
         sleep 0.1
     done
 }
-listen() { # FILE
+listen() { # FILE CARD
     rm -f "$1"
-    ip netns exec $b dumpcap -q -P -i card -a duration:60 -c 5000 -w "$1" 2>$out/dumpcap.log &
+    ip netns exec $b dumpcap -q -P -i "$2" -a duration:60 -c 5000 -w "$1" 2>$out/dumpcap.log &
     capture=$!
     wait_for "$1"
 }
@@ -133,7 +144,7 @@ server=$!
 wait_for $out/ready
 begin_relay lower ''
 
-listen $out/kernel.pcap
+listen $out/kernel.pcap card
 ip netns exec $a timeout 30 $python tests/interop/talk.py ask 10.99.0.2 fd99::2
 for size in 0 1 8 55 56 57 1000 1400; do
     ip netns exec $a ping -q -n -c 2 -i 0.2 -W 2 -s $size 10.99.0.2 >/dev/null
@@ -142,10 +153,30 @@ done
 heard
 
 # With headers between: those that the kernel lets sockets ask for, which the other kernel answers.
-listen $out/between.pcap
+listen $out/between.pcap card
 ip netns exec $a timeout 30 $python tests/interop/recorder.py try fd99::2
 ip netns exec $a timeout 60 $python tests/interop/recorder.py send fd99::2 3000 ||
     fail "a packet with headers between was not answered"
+heard
+
+# Cut by the kernels: what is too long for a's card, and behind it what is too long for k's routes.
+listen $out/cut.pcap card
+ip netns exec $a timeout 30 $python tests/interop/talk.py cut 10.99.0.2 ||
+    fail "a datagram in fragments with options was not answered"
+for size in 4001 5000 9999 20000; do
+    ip netns exec $a ping -q -n -c 2 -i 0.2 -W 2 -s $size 10.99.0.2 >/dev/null ||
+        fail "a ping of $size bytes was not answered"
+done
+heard
+listen $out/narrow.pcap wide
+for what in ask large cut much; do
+    ip netns exec $a timeout 60 $python tests/interop/talk.py $what 10.97.2.2 ||
+        fail "what k cuts was not answered (talk.py $what)"
+done
+for size in 600 1400 2600 2601 4096 9999 30000; do
+    ip netns exec $a ping -q -n -c 2 -i 0.2 -W 2 -s $size 10.97.2.2 >/dev/null ||
+        fail "a ping of $size bytes that k cuts was not answered"
+done
 heard
 
 # Through the relay goes what has headers between, and what is so long that the kernel cuts it, but nothing with a

@@ -27,6 +27,12 @@ use std::{error, fmt};
 mod c {
     extern "C" {
         pub fn hifrostum_judge(packet: *const u8, len: usize) -> u8;
+        pub fn hifrostum_judge_fragments(
+            buffer: *const u8,
+            len: usize,
+            list: *const super::Fragment,
+            list_len: usize,
+        ) -> u8;
         pub fn hifrostum_mend(packet: *mut u8, len: usize) -> u8;
         pub fn hifrostum_lower_lifetime(packet: *mut u8, len: usize) -> u8;
         pub fn hifrostum_set_address(
@@ -89,15 +95,16 @@ pub enum Verdict {
     Good = 0,
     /// The IPv4 header passes, the UDP field is 0000.
     Unsummed = 1,
-    /// No bytes, or fewer than a header has or than declared.
+    /// No bytes, or fewer than a header has or than declared; for [`judge_fragments`], an empty list.
     Cut = 2,
-    /// The version is not 4 or 6; for [`exchange_prefix`], not 6.
+    /// The version is not 4 or 6; for [`exchange_prefix`], not 6, and for [`judge_fragments`], not 4.
     Version = 3,
-    /// A length contradicts another.
+    /// A length contradicts another; for [`judge_fragments`], also fragments that can't be of one packet.
     Shape = 4,
     /// The IPv4 header doesn't pass.
     HeaderSum = 5,
-    /// More fragments follow, or the fragment offset is not 0; over IPv6, a fragment header.
+    /// More fragments follow, or the fragment offset is not 0; over IPv6, a fragment header. For
+    /// [`judge_fragments`], fragments that don't fill a message.
     Fragment = 6,
     /// A protocol that isn't covered in this family, or headers between that aren't walked.
     Uncovered = 7,
@@ -105,7 +112,7 @@ pub enum Verdict {
     Missing = 8,
     /// The message doesn't pass.
     MessageSum = 9,
-    /// A piece, length, stretch, address or prefix doesn't fit.
+    /// A piece, length, stretch, address, prefix or list of fragments doesn't fit.
     Place = 10,
     /// The lifetime is 0 or 1.
     Spent = 11,
@@ -198,9 +205,55 @@ pub struct Partial {
     pub length: u64,
 }
 
+/// Where a fragment lies in a buffer, with the layout of C's `struct hifrostum_fragment`.
+#[repr(C)]
+#[derive(Clone, Copy, Debug, PartialEq, Eq, Hash)]
+pub struct Fragment {
+    /// Where its IP header begins.
+    pub offset: usize,
+    /// How many bytes there are from there on, a tail among them.
+    pub length: usize,
+}
+
 /// The verdict on a packet. Changes nothing.
 pub fn judge(packet: &[u8]) -> Verdict {
     Verdict::answered(unsafe { c::hifrostum_judge(packet.as_ptr(), packet.len()) })
+}
+
+/// The verdict on the message of one IPv4 packet that came in up to 64 fragments: that of the same message in a
+/// packet that came whole, which is a list of one. Changes nothing, and copies no message.
+///
+/// The fragments may lie anywhere in the buffer, and overlap there: the message is put together by their
+/// fragment offsets. Lifetimes, options and service bytes may differ, and no tail is looked at. Refuses with
+///
+/// - `Cut` an empty list, and `Place` more than 64 records, or one that passes the buffer's end;
+/// - `Cut`, `Version`, `Shape` and `HeaderSum`, record by record, what [`judge`] refuses so for its header and its
+///   declared length, and IPv6 with `Version`;
+/// - `Shape` fragments that differ in source, destination, protocol or identification, bring no byte of the
+///   message, or end past its byte 65,515;
+/// - `Fragment` fragments that don't fill the message from its first byte on, with no gap and no overlap, or of which
+///   others than the last have more-fragments clear or a length that doesn't divide by 8, or the last has it set: one
+///   that is there twice is an overlap;
+/// - and as [`judge`] does what is wrong with the whole message.
+///
+/// Where every packet passes what is tested up to `HeaderSum`, the order of the records doesn't change the answer.
+///
+/// ```
+/// use hifrostum::{judge_fragments, Fragment, Verdict};
+/// let buffer = [
+///     0x45, 0, 0, 28, 0, 0, 0x20, 0, 64, 17, 0xD8, 0xB8, 192, 168, 0, 1, 192, 168, 0, 199, //
+///     0x13, 0x88, 0x13, 0x89, 0, 10, 0x0E, 0x47, // and the last two bytes of the message:
+///     0x45, 0, 0, 22, 0, 0, 0, 1, 64, 17, 0xF8, 0xBD, 192, 168, 0, 1, 192, 168, 0, 199, 0x48, 0x69,
+/// ];
+/// let (first, last) = (Fragment { offset: 0, length: 28 }, Fragment { offset: 28, length: 22 });
+/// assert_eq!(judge_fragments(&buffer, &[first, last]), Verdict::Good);
+/// assert_eq!(judge_fragments(&buffer, &[last, first]), Verdict::Good);
+/// assert_eq!(judge_fragments(&buffer, &[first]), Verdict::Fragment);
+/// ```
+pub fn judge_fragments(buffer: &[u8], list: &[Fragment]) -> Verdict {
+    Verdict::answered(unsafe {
+        c::hifrostum_judge_fragments(buffer.as_ptr(), buffer.len(), list.as_ptr(), list.len())
+    })
 }
 
 /// Sets the IPv4 header field and the message field to their fresh values. It makes any content look
@@ -218,7 +271,8 @@ pub fn mend(packet: &mut [u8]) -> Verdict {
 /// edit updates is the one that [`mend`] would write. Both hold of every edit.
 ///
 /// Fragments get through. The verdict on one is `Fragment`: over IPv4 once the header's sum has passed, and
-/// over IPv6 where a fragment header is met. Nobody on the way judges its message's sum.
+/// over IPv6 where a fragment header is met. Its message's sum is judged by [`judge_fragments`] alone, of all IPv4
+/// fragments together.
 ///
 /// ```
 /// use hifrostum::{judge, lower_lifetime, Verdict};

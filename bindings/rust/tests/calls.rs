@@ -420,6 +420,178 @@ fn refused_prefixes() {
     assert_eq!(refused(&[], &INSIDE, &OUTSIDE), Verdict::Cut);
 }
 
+/// The fresh header field of an IPv4 packet without options.
+fn head(packet: &mut [u8]) {
+    packet[10..12].fill(0);
+    let Field(fresh) = field(&packet[..20]);
+    packet[10..12].copy_from_slice(&fresh.to_be_bytes());
+}
+
+/// A good IPv4 packet of a protocol with so many bytes of message.
+fn whole(protocol: u8, message: usize) -> Vec<u8> {
+    let mut packet: Vec<u8> = (0..20 + message).map(|i| (i * 37 + 11) as u8).collect();
+    packet[0] = 0x45;
+    packet[2..4].copy_from_slice(&(20 + message as u16).to_be_bytes());
+    packet[6..8].fill(0);
+    packet[9] = protocol;
+    if protocol == 6 {
+        packet[32] = 0x50;
+    }
+    if protocol == 17 {
+        packet[24..26].copy_from_slice(&(message as u16).to_be_bytes());
+    }
+    assert_eq!(mend(&mut packet), Verdict::Good);
+    packet
+}
+
+/// The fragments of a packet, of so many bytes of message each and the last of what is left, one behind the other, and
+/// where they lie.
+fn cut(packet: &[u8], size: usize) -> (Vec<u8>, Vec<Fragment>) {
+    let (mut buffer, mut list) = (Vec::new(), Vec::new());
+    let message = &packet[20..];
+    for (i, piece) in message.chunks(size).enumerate() {
+        let more = u16::from((i + 1) * size < message.len()) << 13;
+        let mut fragment = [&packet[..20], piece].concat();
+        fragment[2..4].copy_from_slice(&(20 + piece.len() as u16).to_be_bytes());
+        fragment[6..8].copy_from_slice(&((i * size / 8) as u16 + more).to_be_bytes());
+        fragment[8] = 64 - i as u8;
+        head(&mut fragment);
+        list.push(at(buffer.len(), fragment.len()));
+        buffer.extend(fragment);
+    }
+    (buffer, list)
+}
+
+fn at(offset: usize, length: usize) -> Fragment {
+    Fragment { offset, length }
+}
+
+/// A record is what C has: two words, the offset first.
+#[test]
+fn a_record_is_two_words() {
+    use std::mem::{align_of, size_of};
+    assert_eq!(size_of::<Fragment>(), 2 * size_of::<usize>());
+    assert_eq!(align_of::<Fragment>(), align_of::<usize>());
+    let (record, word) = (at(1, 2), size_of::<usize>());
+    let base = &record as *const Fragment as usize;
+    assert_eq!(&record.offset as *const usize as usize, base);
+    assert_eq!(&record.length as *const usize as usize, base + word);
+}
+
+/// Messages of each protocol in pieces, in several orders; with a bit damaged, and with one left out, or twice, or of
+/// another packet.
+#[test]
+fn fragments_judged_together() {
+    for (protocol, size) in [(1, 8), (1, 16), (6, 8), (6, 24), (17, 8), (17, 40)] {
+        let packet = whole(protocol, 99);
+        let (buffer, list) = cut(&packet, size);
+        let turned: Vec<Fragment> = list.iter().rev().copied().collect();
+        let rotated = [&list[1..], &list[..1]].concat();
+        for list in [&list, &turned, &rotated] {
+            assert_eq!(judge_fragments(&buffer, list), Verdict::Good);
+            for record in list {
+                let mut damaged = buffer.clone();
+                damaged[record.offset + record.length - 1] ^= 1;
+                assert_eq!(judge_fragments(&damaged, list), Verdict::MessageSum);
+                damaged[record.offset + 8] ^= 1;
+                assert_eq!(judge_fragments(&damaged, list), Verdict::HeaderSum);
+            }
+            for i in 0..list.len() {
+                let mut fewer = list.clone();
+                fewer.remove(i);
+                assert_eq!(judge_fragments(&buffer, &fewer), Verdict::Fragment);
+                let mut more = list.clone();
+                more.push(list[i]);
+                assert_eq!(judge_fragments(&buffer, &more), Verdict::Fragment);
+                let mut other = buffer.clone();
+                let fragment = &mut other[list[i].offset..][..list[i].length];
+                fragment[5] ^= 1;
+                head(fragment);
+                assert_eq!(judge_fragments(&other, list), Verdict::Shape);
+            }
+        }
+    }
+}
+
+/// A list of one gets the judge's verdict, and each refusal comes in its order.
+#[test]
+fn refused_fragments() {
+    let alone = |packet: &[u8]| judge_fragments(packet, &[at(0, packet.len())]);
+    assert_eq!(alone(&UDP), Verdict::Good);
+    assert_eq!(alone(&UDP[..29]), Verdict::Cut);
+    assert_eq!(alone(&[]), Verdict::Cut);
+    assert_eq!(judge_fragments(&[], &[]), Verdict::Cut);
+    assert_eq!(judge_fragments(&UDP, &[]), Verdict::Cut);
+    for (record, verdict) in [
+        (at(0, 31), Verdict::Place),
+        (at(31, 0), Verdict::Place),
+        (at(1, usize::MAX), Verdict::Place),
+        (at(usize::MAX, 1), Verdict::Place),
+        (at(usize::MAX, usize::MAX), Verdict::Place),
+        (at(30, 0), Verdict::Cut),
+        (at(1, 29), Verdict::Version),
+    ] {
+        assert_eq!(judge_fragments(&UDP, &[record]), verdict);
+    }
+    // 64 records and 65, of a message in pieces and of nothing
+    let (buffer, list) = cut(&whole(17, 520), 8);
+    assert_eq!(judge_fragments(&buffer, &list), Verdict::Place);
+    assert_eq!(judge_fragments(&buffer, &list[..64]), Verdict::Fragment);
+    let (buffer, list) = cut(&whole(17, 512), 8);
+    assert_eq!(judge_fragments(&buffer, &list), Verdict::Good);
+    assert_eq!(judge_fragments(&[], &[at(0, 0); 64]), Verdict::Cut);
+    assert_eq!(judge_fragments(&[], &[at(0, 0); 65]), Verdict::Place);
+    // two bytes of each of two fragments are others, with the headers' sums right
+    let spoiled = |first: (usize, [u8; 2]), last: (usize, [u8; 2])| {
+        let (mut buffer, list) = cut(&whole(17, 40), 24);
+        for (record, (place, bytes)) in list.iter().zip([first, last]) {
+            let fragment = &mut buffer[record.offset..][..record.length];
+            fragment[place..place + 2].copy_from_slice(&bytes);
+            head(fragment);
+        }
+        judge_fragments(&buffer, &list)
+    };
+    let right = (8, [9, 17]);
+    assert_eq!(spoiled(right, right), Verdict::Good);
+    assert_eq!(spoiled(right, (0, [0x65, 0])), Verdict::Version);
+    assert_eq!(spoiled((0, [0x44, 0]), (0, [0x65, 0])), Verdict::Shape);
+    assert_eq!(spoiled((2, [0, 20]), (0, [0x65, 0])), Verdict::Version);
+    assert_eq!(spoiled((2, [0, 19]), (0, [0x65, 0])), Verdict::Shape);
+    assert_eq!(spoiled((2, [0, 45]), (0, [0x65, 0])), Verdict::Cut);
+    assert_eq!(spoiled(right, (2, [0, 20])), Verdict::Shape);
+    assert_eq!(spoiled(right, (8, [9, 6])), Verdict::Shape);
+    assert_eq!(spoiled((8, [9, 58]), (8, [9, 58])), Verdict::Uncovered);
+    assert_eq!(spoiled(right, (6, [0x1F, 0xFF])), Verdict::Shape);
+    assert_eq!(spoiled(right, (6, [0x20, 3])), Verdict::Fragment);
+    assert_eq!(spoiled(right, (6, [0, 2])), Verdict::Fragment);
+    assert_eq!(spoiled(right, (6, [0, 4])), Verdict::Fragment);
+    assert_eq!(spoiled((6, [0, 0]), right), Verdict::Fragment);
+    assert_eq!(spoiled((2, [0, 43]), right), Verdict::Fragment);
+    assert_eq!(spoiled((24, [0, 7]), right), Verdict::Shape);
+    assert_eq!(spoiled((24, [0, 41]), right), Verdict::Shape);
+    assert_eq!(spoiled((26, [0, 0]), right), Verdict::Unsummed);
+    assert_eq!(spoiled(right, (30, [1, 2])), Verdict::MessageSum);
+}
+
+/// A datagram that ends inside the first of two fragments, and an empty message.
+#[test]
+fn fragments_of_a_trailing_area() {
+    let mut packet = whole(17, 40);
+    packet[24..26].copy_from_slice(&[0, 13]);
+    assert_eq!(mend(&mut packet), Verdict::Good);
+    let (mut buffer, list) = cut(&packet, 24);
+    assert_eq!(judge_fragments(&buffer, &list), Verdict::Good);
+    *buffer.last_mut().unwrap() ^= 1;
+    buffer[33] ^= 1;
+    assert_eq!(judge_fragments(&buffer, &list), Verdict::Good);
+    buffer[32] ^= 1;
+    assert_eq!(judge_fragments(&buffer, &list), Verdict::MessageSum);
+    let mut empty = UDP[..20].to_vec();
+    empty[3] = 20;
+    head(&mut empty);
+    assert_eq!(judge_fragments(&empty, &[at(0, 20)]), Verdict::Shape);
+}
+
 /// A field at FFFF where the fresh one is 0000: an edit leaves what the mender writes.
 #[test]
 fn no_negative_zero() {

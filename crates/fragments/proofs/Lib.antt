@@ -5,3 +5,4 @@ pub mod Moves
 pub mod Tails
 pub mod Gathering
 pub mod Calls
+pub mod Along

@@ -1,6 +1,7 @@
 // The answer to each operation.
 use crate::cases::Case;
 use crate::cases::LARGEST;
+use crate::cases::LISTED;
 use crate::cases::SUM;
 use crate::cases::WIDTH;
 use crate::cases::expected_size;
@@ -11,6 +12,7 @@ use crate::operation;
 use crate::print::print;
 use crate::print::put;
 use capture::judge_capture;
+use fragments::Fragment;
 use lines::State;
 use sums::Field;
 use sums::Fold;
@@ -39,6 +41,7 @@ fn answer_on(operation: u8, a: u64, buffer: &mut [u8], second: &[u8]) {
         operation::PREFIX => edited(operation, a, buffer, second),
         operation::CAPTURE => captured(buffer, a as usize),
         operation::CHAIN => chained(buffer, second),
+        operation::FRAGMENTS => put_verdict(gathered(buffer, second), b"\n"),
         operation::UPDATE => updated(a),
         operation::JOIN => joined(second),
         operation::PRINTED => printed(buffer),
@@ -130,6 +133,27 @@ fn numbers(bytes: &[u8], list: &mut [u32]) -> usize
         i += 1;
     }
     n
+}
+
+// The verdict on the fragments that payload two lists.
+fn gathered(buffer: &[u8], second: &[u8]) -> Verdict {
+    let n = second.len() / LISTED;
+    let mut all = fragments::none();
+    let mut i: usize = 0;
+    while i < n {
+        all = fragments::with(buffer, all, fragment_at(second, i * LISTED));
+        i += 1;
+    }
+    fragments::over(buffer, all)
+}
+
+fn fragment_at(bytes: &[u8], at: usize) -> Fragment
+    requires { ⌜ at + 16 ≤ length (now bytes) ⌝ }
+{
+    Fragment {
+        offset: long(bytes, at) as usize,
+        length: long(bytes, at + 8) as usize,
+    }
 }
 
 fn put_joined(joined: Joined) {

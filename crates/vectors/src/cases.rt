@@ -19,10 +19,13 @@ const ONE: usize = 10;
 
 const TWO: usize = 14;
 
-// The size of a 32-bit number, and of a partial sum: a 16-bit fold and a 64-bit length.
+// The size of a 32-bit number, of a partial sum (a 16-bit fold and a 64-bit length), and of a fragment's record (a
+// 64-bit offset and a 64-bit length).
 pub const WIDTH: usize = 4;
 
 pub const SUM: usize = 10;
+
+pub const LISTED: usize = 16;
 
 // The buffer is payload one, or what the case before left, or the last one given.
 const GIVEN: u8 = 0;
@@ -79,7 +82,7 @@ fn case_of(bytes: &[u8; HEAD]) -> Case {
 }
 
 fn malformed(case: Case) -> bool {
-    if operation::PREFIX < case.operation {
+    if operation::FRAGMENTS < case.operation {
         return true;
     }
     if AGAIN < case.source {
@@ -102,6 +105,9 @@ fn malformed(case: Case) -> bool {
     }
     if case.operation == operation::PREFIX {
         return case.two < expected_size(case.number);
+    }
+    if case.operation == operation::FRAGMENTS {
+        return case.two % LISTED != 0;
     }
     false
 }

@@ -26,3 +26,5 @@ pub const JOIN: u8 = 11;
 pub const PRINTED: u8 = 12;
 
 pub const PREFIX: u8 = 13;
+
+pub const FRAGMENTS: u8 = 14;

@@ -2,6 +2,7 @@
 
 use crate::capture::{judge_capture, printed};
 use crate::edit::{lower_lifetime, set_address, set_stretch};
+use crate::fragments::{judge_fragments, Record};
 use crate::judge::judge;
 use crate::mend::mend;
 use crate::prefix::exchange_prefix;
@@ -23,12 +24,14 @@ pub const UPDATE: u8 = 10;
 pub const JOIN: u8 = 11;
 pub const PRINTED: u8 = 12;
 pub const PREFIX: u8 = 13;
+pub const FRAGMENTS: u8 = 14;
 
 /// The operations' names, by number.
 #[rustfmt::skip]
-pub const OPERATIONS: [&str; 14] = [
+pub const OPERATIONS: [&str; 15] = [
     "judge", "mend", "lower lifetime", "set address", "set stretch", "judge capture", "chain", "partial sum",
     "fold at a position", "field", "update", "join", "printed lines", "exchange prefix",
+    "judge fragments",
 ];
 
 /// Payload one is the buffer.
@@ -44,6 +47,8 @@ pub const HEAD: usize = 18;
 pub const NUMBER: usize = 4;
 /// The size of a partial sum in the payload of a join: fold and length.
 pub const SUM: usize = 10;
+/// The size of a record in the payload of fragments: offset and length.
+pub const LISTED: usize = 16;
 pub const FILL: u8 = 0xA5;
 pub const BAD_CASE: &str = "bad case\n";
 
@@ -84,9 +89,13 @@ impl Case {
         }
         let (operation, source, number) = (head[0], head[1], whole(&head[2..10]));
         let (size_one, size_two) = (whole(&head[10..14]) as usize, whole(&head[14..18]) as usize);
-        let unknown = operation > PREFIX || source > AGAIN;
+        let unknown = operation > FRAGMENTS || source > AGAIN;
         let too_large = size_one > LARGEST || size_two > LARGEST || (operation == CAPTURE && number > LARGEST as u64);
-        let uneven = operation == CHAIN && size_two % NUMBER != 0;
+        let uneven = match operation {
+            CHAIN => size_two % NUMBER != 0,
+            FRAGMENTS => size_two % LISTED != 0,
+            _ => false,
+        };
         let not_two = operation == JOIN && size_two != 2 * SUM;
         let no_prefix = operation == PREFIX && expected_size(number) > size_two;
         if unknown || too_large || uneven || not_two || no_prefix {
@@ -104,6 +113,17 @@ impl Case {
         let (expected, new) = self.two.split_at(expected_size(self.number));
         (self.number as u32, expected, new)
     }
+
+    /// Of fragments the list.
+    pub fn list(&self) -> Vec<Record> {
+        let record = |bytes: &[u8]| Record { offset: whole(&bytes[..8]), length: whole(&bytes[8..]) };
+        self.two.chunks(LISTED).map(record).collect()
+    }
+}
+
+/// Payload two of fragments.
+pub fn list_payload(list: &[Record]) -> Vec<u8> {
+    list.iter().flat_map(|record| [record.offset, record.length]).flat_map(u64::to_be_bytes).collect()
 }
 
 /// The number and payload two of a prefix exchange.
@@ -183,6 +203,7 @@ impl Desk {
                 let (side, expected, new) = case.exchange();
                 self.edited(|packet| exchange_prefix(packet, side, expected, new))
             }
+            FRAGMENTS => format!("{}\n", judge_fragments(&self.buffer, &case.list())),
             _ => printed(&self.buffer),
         }
     }

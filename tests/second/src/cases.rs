@@ -3,6 +3,7 @@
 pub mod between;
 mod captures;
 mod corners;
+pub mod fragments;
 mod lifetimes;
 mod packets;
 pub mod prefixes;
@@ -112,6 +113,7 @@ pub fn stored(seed: u64) -> Result<(Vec<u8>, u64), String> {
     maker.stopped_walks();
     (maker.shapes, maker.calls) = (Shape::any, Calls::Prefix);
     maker.prefixes();
+    maker.fragment_lists();
     if let Some(cover) = &maker.cover {
         cover.check()?;
     }
@@ -122,7 +124,7 @@ pub fn stored(seed: u64) -> Result<(Vec<u8>, u64), String> {
 pub fn fuzz(seed: u64, count: u64, out: &mut impl Write) -> io::Result<()> {
     let mut maker = Maker::new(seed, None);
     while maker.count < count {
-        match maker.random.between(1, 92) {
+        match maker.random.between(1, 107) {
             1 => maker.any_corner(),
             2 => maker.any_blank(),
             3..=7 => maker.any_sums(),
@@ -137,6 +139,8 @@ pub fn fuzz(seed: u64, count: u64, out: &mut impl Write) -> io::Result<()> {
             47..=54 => maker.any_trailing(),
             55..=66 => maker.any_between(),
             67..=80 => maker.any_prefixes(),
+            81..=93 => (0..5).for_each(|_| maker.any_fragments()),
+            94..=95 => maker.any_long_fragments(),
             _ => maker.any_faults(),
         }
         out.write_all(&maker.bytes)?;

@@ -1,10 +1,12 @@
 // The stored cases and answers are those of seed 1; the case format is read as CASES.md says.
 
-use second::answer::{digest, exchange_payload, Case, Desk, Next};
-use second::answer::{ADDRESS, JUDGE, LEFT, LIFETIME, MEND, PREFIX, STRETCH};
+use second::answer::{digest, exchange_payload, list_payload, Case, Desk, Next};
+use second::answer::{ADDRESS, FRAGMENTS, JUDGE, LEFT, LIFETIME, MEND, PREFIX, STRETCH};
 use second::cases;
 use second::cases::prefixes::CORNER_WORDS;
+use second::fragments::Record;
 use second::judge::{first, judge};
+use second::mistakes::fragments::FRAGMENT_MISTAKES;
 use second::mistakes::prefix::{Asked, PREFIX_MISTAKES};
 use second::mistakes::{at_40, BETWEEN_MISTAKES, MISTAKES};
 use second::packet::View;
@@ -68,7 +70,7 @@ fn fuzz_reaches_long_chains_and_both_answers_of_a_join() {
 #[test]
 fn fuzz_reaches_each_update_where_equation_3_answers_ffff() {
     let mut bytes = Vec::new();
-    cases::fuzz(9, 40_000, &mut bytes).unwrap();
+    cases::fuzz(9, 60_000, &mut bytes).unwrap();
     let (mut input, mut desk, mut alone, mut edits) = (&bytes[..], Desk::default(), 0, BTreeMap::new());
     while let Next::Case(case) = Case::read(&mut input).unwrap() {
         desk.lay(&case);
@@ -118,7 +120,7 @@ fn fuzz_reaches_lifetimes_of_packets_that_the_other_edits_refuse() {
 #[test]
 fn fuzz_reaches_trailing_areas() {
     let mut bytes = Vec::new();
-    cases::fuzz(9, 120_000, &mut bytes).unwrap();
+    cases::fuzz(9, 180_000, &mut bytes).unwrap();
     let (mut input, mut desk, mut met, mut mistaken) = (&bytes[..], Desk::default(), BTreeMap::new(), BTreeMap::new());
     while let Next::Case(case) = Case::read(&mut input).unwrap() {
         desk.lay(&case);
@@ -152,7 +154,7 @@ fn fuzz_reaches_trailing_areas() {
 #[test]
 fn fuzz_reaches_headers_between() {
     let mut bytes = Vec::new();
-    cases::fuzz(9, 150_000, &mut bytes).unwrap();
+    cases::fuzz(9, 250_000, &mut bytes).unwrap();
     let (mut input, mut desk) = (&bytes[..], Desk::default());
     let (mut walked, mut called, mut stopped) = (BTreeMap::new(), BTreeMap::new(), BTreeMap::new());
     let (mut in_one, mut in_two, mut mistaken) = (BTreeMap::new(), BTreeMap::new(), BTreeMap::new());
@@ -234,6 +236,36 @@ fn fuzz_reaches_prefixes() {
     assert!(told.iter().all(|count| *count == 20), "{told:?}");
 }
 
+/// Every verdict on fragments; few and many of them; and verdicts that each mistake makes otherwise.
+#[test]
+fn fuzz_reaches_fragments() {
+    let mut bytes = Vec::new();
+    cases::fuzz(9, 120_000, &mut bytes).unwrap();
+    let (mut input, mut desk) = (&bytes[..], Desk::default());
+    let (mut verdicts, mut counts, mut long) = (BTreeMap::new(), BTreeMap::new(), 0);
+    let mut told = [0; FRAGMENT_MISTAKES.len()];
+    while let Next::Case(case) = Case::read(&mut input).unwrap() {
+        desk.lay(&case);
+        if case.operation != FRAGMENTS {
+            continue;
+        }
+        let (list, verdict) = (case.list(), desk.answer(&case).trim_end().parse().unwrap());
+        *verdicts.entry(verdict).or_insert(0) += 1;
+        *counts.entry((list.len().min(5), verdict == 0)).or_insert(0) += 1;
+        long += u32::from(verdict == 0 && list.len() > 50);
+        for (count, mistake) in told.iter_mut().zip(&FRAGMENT_MISTAKES).filter(|(count, _)| **count < 5) {
+            *count += u32::from((mistake.verdict)(&desk.buffer, &list, verdict) != verdict);
+        }
+    }
+    assert!(verdicts.keys().eq(&[0, 1, 2, 3, 4, 5, 6, 7, 9, 10]), "{verdicts:?}");
+    assert!(verdicts.values().all(|count| *count >= 50), "{verdicts:?}");
+    assert!((1..=5).all(|count| [false, true].iter().all(|good| counts[&(count, *good)] >= 50)), "{counts:?}");
+    assert!(long >= 5, "{long}");
+    let rare: Vec<&str> =
+        FRAGMENT_MISTAKES.iter().zip(told).filter(|(_, count)| *count < 5).map(|(mistake, _)| mistake.name).collect();
+    assert!(rare.is_empty(), "{rare:?}");
+}
+
 #[test]
 fn sources_and_malformed_cases() {
     let case = |operation: u8, source: u8, one: &[u8]| {
@@ -242,7 +274,7 @@ fn sources_and_malformed_cases() {
     let good = [case(9, 0, &[0xAB]), case(9, 1, &[]), case(9, 2, &[])].concat();
     assert_eq!(answers(&good), ("21759\n".repeat(3), true));
     assert_eq!(answers(&good[..good.len() - 1]), ("21759\n".repeat(2), false));
-    assert_eq!(answers(&case(14, 0, &[])), (String::new(), false));
+    assert_eq!(answers(&case(15, 0, &[])), (String::new(), false));
     assert_eq!(answers(&case(0, 3, &[])), (String::new(), false));
     let mut cut = case(0, 0, &[1, 2]);
     cut.pop();
@@ -279,6 +311,25 @@ fn prefix_exchanges_as_the_format_has_them() {
         assert_eq!(answers(&case(size << 32, &two)), (String::new(), false));
     }
     assert_eq!(answers(&case(1 << 32, &[])), (String::new(), false));
+}
+
+/// The example of 28 bytes as the only fragment. A list that doesn't end with a whole record is malformed.
+#[test]
+fn fragments_as_the_format_has_them() {
+    let head = [0x45, 0, 0, 0x1C, 0, 0, 0, 0, 0x40, 1, 0x66, 0xDF, 0x0A, 0, 0, 1, 0x0A, 0, 0, 2];
+    let one = [&[7][..], &head, &[8, 0, 0xF7, 0xFD, 0, 1, 0, 1]].concat();
+    let case = |two: &[u8]| {
+        Case { operation: FRAGMENTS, source: 0, number: 0, one: one.clone(), two: two.to_vec() }.to_bytes()
+    };
+    let list = list_payload(&[Record { offset: 1, length: 28 }]);
+    assert_eq!(list, [0, 0, 0, 0, 0, 0, 0, 1, 0, 0, 0, 0, 0, 0, 0, 28]);
+    assert_eq!(answers(&case(&list)), ("0\n".to_string(), true));
+    assert_eq!(answers(&case(&[])), ("2\n".to_string(), true));
+    assert_eq!(answers(&case(&[&list[..], &list].concat())), ("6\n".to_string(), true));
+    assert_eq!(answers(&case(&[0xFF; 16])), ("10\n".to_string(), true));
+    for size in [1, 8, 15, 17, 24] {
+        assert_eq!(answers(&case(&vec![0; size])), (String::new(), false));
+    }
 }
 
 #[test]

@@ -1,0 +1,108 @@
+-- Pieces one after another: what each adds to their shape, their filling, their bytes and their sum.
+use mathlib.Core.Path.{_≡_, refl, sym, ap, ap₂, _∙_}
+use Prim.Native.Nat.{ℕ, zero, suc, _+_, _-_, _*_, _%_, _≤_, _<_}
+use native.Mathlib.Nat.{add-zero}
+use native.Mathlib.Numerals.{add-one}
+use native.Mathlib.Decide.{decLt}
+use native.Mathlib.Omega.{arith}
+use mathlib.Core.List.{List, [], _∷_, _++_, map, append-nil}
+use mathlib.Core.Bool.{Bool, true, false, not, _&&_, _||_, true≢false}
+use lib.ListN.{length, take, drop, getD, length-append, drop-of-length-le, List·getD-append}
+use lib.Seq.{drop-cons, take-append-le, take-append-add, take-all, take-nil, getD-append-add}
+use lib.Dec.{eqb, ltb}
+use borrow.Author.Tests.{eqb-true, eq-eqb, ne-eqb, lt-ltb, le-ltb}
+use Rattle.verdicts.specs.Choice.{if_then_else_}
+use Rattle.verdicts.proofs.Tests.{by-cases, and-true}
+use Rattle.sums.specs.Total.{odd, weigh}
+use Rattle.sums.proofs.Totals.{weigh-even}
+use Rattle.wire.specs.Bytes.{byteAt}
+use Rattle.fragments.specs.Fragments.{Piece, equal, alike, sharedWith, someEmpty, somePast, fills, together}
+use Rattle.fragments.specs.Gathered.{pieceAt, piecesAt, shapedOf, filledOf}
+use Rattle.fragments.proofs.Headers.{equal-same}
+
+-- ---- those from a place of the list on
+abbrev pub left : List ℕ → List ℕ → ℕ → List Piece
+left b places k = piecesAt b (drop k places)
+
+pub left-cons : (b places : List ℕ) (k : ℕ) → k < length places → left b places k ≡ pieceAt b (getD places k 0) ∷ left b places (k + 1)
+left-cons b places k l = ap (piecesAt b) (drop-cons places k 0 l ∙ ap (λ i. getD places k 0 ∷ drop i places) (sym (add-one k)))
+
+pub left-none : (b places : List ℕ) (k : ℕ) → length places ≤ k → left b places k ≡ []
+left-none b places k l = ap (piecesAt b) (drop-of-length-le places {i = k} l)
+
+-- ---- their shape
+module _ (f p : Piece) (ps : List Piece) where
+  pub unlike : alike f p ≡ false → shapedOf f (p ∷ ps) ≡ false
+  unfolding shapedOf
+  unlike a = rw a
+
+  module _ (a : alike f p ≡ true) where
+    pub vacant : length (p .bytes) ≡ 0 → shapedOf f (p ∷ ps) ≡ false
+    unfolding shapedOf
+    vacant e = simp (a, eq-eqb (length (p .bytes)) 0 e)
+
+    module _ (n : length (p .bytes) ≡ 0 → ⊥) where
+      pub overlong : 65515 < p .begin + length (p .bytes) → shapedOf f (p ∷ ps) ≡ false
+      unfolding shapedOf
+      overlong l = simp (a, ne-eqb (length (p .bytes)) 0 n, lt-ltb 65515 (p .begin + length (p .bytes)) l)
+
+      pub shaped-next : p .begin + length (p .bytes) ≤ 65515 → shapedOf f (p ∷ ps) ≡ shapedOf f ps
+      unfolding shapedOf
+      shaped-next l = simp (a, ne-eqb (length (p .bytes)) 0 n, le-ltb 65515 (p .begin + length (p .bytes)) l)
+
+pub shaped-none : (f : Piece) → shapedOf f [] ≡ true
+unfolding shapedOf
+shaped-none f = refl
+
+-- ---- their filling
+module _ (at : ℕ) (p : Piece) where
+  pub fills-cons : (ps : List Piece) → 0 < length ps → fills at (p ∷ ps) ≡ (eqb (p .begin) at && (p .more && (eqb (length (p .bytes) % 8) 0 && fills (at + length (p .bytes)) ps)))
+  unfolding fills
+  fills-cons [] l = absurd (omega arith)
+  fills-cons (q ∷ ps) l = refl
+
+  pub fills-last : fills at (p ∷ []) ≡ (eqb (p .begin) at && not (p .more))
+  unfolding fills
+  fills-last = refl
+
+-- ---- their bytes
+pub together-cons : (p : Piece) (ps : List Piece) → together (p ∷ ps) ≡ p .bytes ++ together ps
+unfolding together
+together-cons p ps = refl
+
+pub byte-inside : (xs ys : List ℕ) (i : ℕ) → i < length xs → byteAt (xs ++ ys) i ≡ byteAt xs i
+byte-inside xs ys i l = List·getD-append xs ys 0 i l
+
+pub byte-behind : (xs ys : List ℕ) (i : ℕ) → length xs ≤ i → byteAt (xs ++ ys) i ≡ byteAt ys (i - length xs)
+byte-behind xs ys i l = ap (byteAt (xs ++ ys)) (back (length xs) i l) ∙ getD-append-add xs ys (i - length xs) 0
+  where
+    back : (a i : ℕ) → a ≤ i → i ≡ a + (i - a)
+    back a i l = omega arith
+
+-- ---- their sum
+-- all but the last have an even number of bytes
+abbrev pub Evens : List Piece → Type 0
+Evens [] = Unit
+Evens (p ∷ []) = Unit
+Evens (p ∷ q ∷ ps) = (length (p .bytes) % 2 ≡ 0) × Evens (q ∷ ps)
+
+pub fills-evens : (at : ℕ) (ps : List Piece) → fills at ps ≡ true → Evens ps
+unfolding fills
+fills-evens at [] e = tt
+fills-evens at (p ∷ []) e = tt
+fills-evens at (p ∷ q ∷ ps) e =
+    let x = and-true _ _ (and-true _ _ (and-true _ _ e .1) .1) in
+    (let d = eqb-true (length (p .bytes) % 8) 0 (x .0) in omega arith, fills-evens (at + length (p .bytes)) (q ∷ ps) (x .1))
+
+pub evens-next : (p : Piece) (ps : List Piece) → Evens (p ∷ ps) → Evens ps
+evens-next p [] e = tt
+evens-next p (q ∷ ps) e = e .1
+
+-- so the sum of the first n bytes is that of so many of the first's and that of the rest's
+pub cut-weigh : (p : Piece) (ps : List Piece) (n : ℕ) → Evens (p ∷ ps)
+    → weigh true (take n (together (p ∷ ps))) ≡ weigh true (take n (p .bytes)) + weigh true (take (n - length (p .bytes)) (together ps))
+unfolding together
+cut-weigh p ps n e = elim (decLt n (length (p .bytes))) [
+  | yes l ↦ ap (weigh true) (take-append-le n (p .bytes) (together ps) (omega arith)) ∙ ?
+  | no l ↦ ?
+]
