@@ -7,7 +7,7 @@ use native.Mathlib.Decide.{decLt}
 use native.Mathlib.Omega.{arith}
 use mathlib.Core.List.{List, [], _∷_, _++_, map, append-nil}
 use mathlib.Core.Bool.{Bool, true, false, not, _&&_, _||_, true≢false}
-use lib.ListN.{length, take, drop, getD, length-append, drop-of-length-le, List·getD-append}
+use lib.ListN.{length, take, drop, getD, length-append, length-map, length-drop, drop-of-length-le, List·getD-append}
 use lib.Seq.{drop-cons, take-append-le, take-append-add, take-all, take-nil, getD-append-add}
 use lib.Dec.{eqb, ltb}
 use borrow.Author.Tests.{eqb-true, eq-eqb, ne-eqb, lt-ltb, le-ltb}
@@ -54,21 +54,62 @@ pub shaped-none : (f : Piece) → shapedOf f [] ≡ true
 unfolding shapedOf
 shaped-none f = refl
 
+pub left-last : (b places : List ℕ) (k : ℕ) → k + 1 ≡ length places → left b places k ≡ pieceAt b (getD places k 0) ∷ []
+left-last b places k e = left-cons b places k (omega arith) ∙ ap (λ ps. pieceAt b (getD places k 0) ∷ ps) (left-none b places (k + 1) (omega arith))
+
+pub some-left : (b places : List ℕ) (k : ℕ) → k + 1 < length places → 0 < length (left b places (k + 1))
+some-left b places k l = omega (arith, length-map (drop (k + 1) places) (pieceAt b), length-drop (k + 1) places)
+
 -- ---- their filling
 module _ (at : ℕ) (p : Piece) where
-  pub fills-cons : (ps : List Piece) → 0 < length ps → fills at (p ∷ ps) ≡ (eqb (p .begin) at && (p .more && (eqb (length (p .bytes) % 8) 0 && fills (at + length (p .bytes)) ps)))
+  pub gap : (ps : List Piece) → (p .begin ≡ at → ⊥) → fills at (p ∷ ps) ≡ false
   unfolding fills
-  fills-cons [] l = absurd (omega arith)
-  fills-cons (q ∷ ps) l = refl
+  gap [] n = simp (ne-eqb (p .begin) at n)
+  gap (q ∷ ps) n = simp (ne-eqb (p .begin) at n)
 
-  pub fills-last : fills at (p ∷ []) ≡ (eqb (p .begin) at && not (p .more))
-  unfolding fills
-  fills-last = refl
+  module _ (e : p .begin ≡ at) where
+    pub closed : p .more ≡ false → fills at (p ∷ []) ≡ true
+    unfolding fills
+    closed m = simp (eq-eqb (p .begin) at e, m)
+
+    pub unclosed : p .more ≡ true → fills at (p ∷ []) ≡ false
+    unfolding fills
+    unclosed m = simp (eq-eqb (p .begin) at e, m)
+
+    pub ended : (ps : List Piece) → 0 < length ps → p .more ≡ false → fills at (p ∷ ps) ≡ false
+    unfolding fills
+    ended [] l m = absurd (omega arith)
+    ended (q ∷ ps) l m = simp (eq-eqb (p .begin) at e, m)
+
+    pub ragged : (ps : List Piece) → 0 < length ps → p .more ≡ true → (length (p .bytes) % 8 ≡ 0 → ⊥) → fills at (p ∷ ps) ≡ false
+    unfolding fills
+    ragged [] l m n = absurd (omega arith)
+    ragged (q ∷ ps) l m n = simp (eq-eqb (p .begin) at e, m, ne-eqb (length (p .bytes) % 8) 0 n)
+
+    pub fills-next : (ps : List Piece) → 0 < length ps → p .more ≡ true → length (p .bytes) % 8 ≡ 0 → fills at (p ∷ ps) ≡ fills (at + length (p .bytes)) ps
+    unfolding fills
+    fills-next [] l m z = absurd (omega arith)
+    fills-next (q ∷ ps) l m z = simp (eq-eqb (p .begin) at e, m, eq-eqb (length (p .bytes) % 8) 0 z)
+
+pub unfilled : (ps : List Piece) → fills 0 ps ≡ false → 0 ≡ filledOf ps
+unfolding filledOf
+unfilled ps f = simp f
+
+pub full : (ps : List Piece) → fills 0 ps ≡ true → length (together ps) ≡ filledOf ps
+unfolding filledOf
+full ps f = simp f
 
 -- ---- their bytes
 pub together-cons : (p : Piece) (ps : List Piece) → together (p ∷ ps) ≡ p .bytes ++ together ps
 unfolding together
 together-cons p ps = refl
+
+pub together-one : (p : Piece) → together (p ∷ []) ≡ p .bytes
+unfolding together
+together-one p = append-nil (p .bytes)
+
+pub together-long : (p : Piece) (ps : List Piece) → length (together (p ∷ ps)) ≡ length (p .bytes) + length (together ps)
+together-long p ps = ap length (together-cons p ps) ∙ length-append (p .bytes) (together ps)
 
 pub byte-inside : (xs ys : List ℕ) (i : ℕ) → i < length xs → byteAt (xs ++ ys) i ≡ byteAt xs i
 byte-inside xs ys i l = List·getD-append xs ys 0 i l
@@ -91,8 +132,13 @@ unfolding fills
 fills-evens at [] e = tt
 fills-evens at (p ∷ []) e = tt
 fills-evens at (p ∷ q ∷ ps) e =
-    let x = and-true _ _ (and-true _ _ (and-true _ _ e .1) .1) in
-    (let d = eqb-true (length (p .bytes) % 8) 0 (x .0) in omega arith, fills-evens (at + length (p .bytes)) (q ∷ ps) (x .1))
+    let rest = fills (at + length (p .bytes)) (q ∷ ps) in
+    let eights = eqb (length (p .bytes) % 8) 0 in
+    let x = and-true eights rest (and-true (p .more) (eights && rest) (and-true (eqb (p .begin) at) (p .more && (eights && rest)) e .1) .1) in
+    (even (length (p .bytes)) (eqb-true (length (p .bytes) % 8) 0 (x .0)), fills-evens (at + length (p .bytes)) (q ∷ ps) (x .1))
+  where
+    even : (n : ℕ) → n % 8 ≡ 0 → n % 2 ≡ 0
+    even n e = omega arith
 
 pub evens-next : (p : Piece) (ps : List Piece) → Evens (p ∷ ps) → Evens ps
 evens-next p [] e = tt
@@ -101,8 +147,22 @@ evens-next p (q ∷ ps) e = e .1
 -- so the sum of the first n bytes is that of so many of the first's and that of the rest's
 pub cut-weigh : (p : Piece) (ps : List Piece) (n : ℕ) → Evens (p ∷ ps)
     → weigh true (take n (together (p ∷ ps))) ≡ weigh true (take n (p .bytes)) + weigh true (take (n - length (p .bytes)) (together ps))
-unfolding together
+unfolding together weigh odd
 cut-weigh p ps n e = elim (decLt n (length (p .bytes))) [
-  | yes l ↦ ap (weigh true) (take-append-le n (p .bytes) (together ps) (omega arith)) ∙ ?
-  | no l ↦ ?
+  | yes l ↦ ap (weigh true) (take-append-le n (p .bytes) (together ps) (omega arith)) ∙ sym (none (n - length (p .bytes)) (omega arith))
+  | no l ↦
+      ap (λ k. weigh true (take k (p .bytes ++ together ps))) (back (length (p .bytes)) n (omega arith))
+      ∙ ap (weigh true) (take-append-add (p .bytes) (together ps) (n - length (p .bytes)))
+      ∙ join ps e
+      ∙ ap (λ xs. weigh true xs + weigh true (take (n - length (p .bytes)) (together ps))) (sym (take-all n (p .bytes) (omega arith)))
 ]
+  where
+    none : (k : ℕ) → k ≡ 0 → weigh true (take n (p .bytes)) + weigh true (take k (together ps)) ≡ weigh true (take n (p .bytes))
+    none k z = ap (λ i. weigh true (take n (p .bytes)) + weigh true (take i (together ps))) z ∙ add-zero (weigh true (take n (p .bytes)))
+    back : (a i : ℕ) → a ≤ i → i ≡ a + (i - a)
+    back a i l = omega arith
+    even : (k : ℕ) → k % 2 ≡ 0 → odd k ≡ false
+    even k z = ne-eqb (k % 2) 1 (λ e. absurd (omega arith))
+    join : (ps : List Piece) → Evens (p ∷ ps) → weigh true (p .bytes ++ take (n - length (p .bytes)) (together ps)) ≡ weigh true (p .bytes) + weigh true (take (n - length (p .bytes)) (together ps))
+    join [] e = ap (weigh true) (ap (λ xs. p .bytes ++ xs) (take-nil (n - length (p .bytes))) ∙ append-nil (p .bytes)) ∙ sym (ap (λ xs. weigh true (p .bytes) + weigh true xs) (take-nil (n - length (p .bytes))) ∙ add-zero (weigh true (p .bytes)))
+    join (q ∷ ps) e = weigh-even true (p .bytes) (take (n - length (p .bytes)) (together (q ∷ ps))) (even (length (p .bytes)) (e .0))
