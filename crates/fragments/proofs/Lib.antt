@@ -6,3 +6,5 @@ pub mod Tails
 pub mod Gathering
 pub mod Calls
 pub mod Along
+pub mod Ruled
+pub mod Whole
