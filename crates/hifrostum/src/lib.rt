@@ -3,6 +3,7 @@
 // A slice is a pointer and a length. Any bytes may be lent, and every call ends and answers by the numbers of the
 // rules paper. A refused call changes no lent byte, and sets to 0 what it hands back through count, fold and length,
 // but for a join, which hands back the left sum.
+use fragments::Fragment;
 use sums::Field;
 use sums::Fold;
 use sums::Partial;
@@ -14,6 +15,7 @@ ghost use Rattle.sums.specs.Partials.{partial, joinOf};
 ghost use Rattle.chain.specs.Chain.{chainOf};
 ghost use Rattle.sums.specs.Update.{updated};
 ghost use Rattle.judge.specs.Judge.{judgeOf};
+ghost use Rattle.fragments.specs.Fragments.{fragmentsOf};
 ghost use Rattle.mend.specs.Mend.{mendOf};
 ghost use Rattle.kept.specs.Edits.{lifetimeOf, addressOf, stretchOf};
 ghost use Rattle.kept.specs.Prefix.{prefixOf};
@@ -26,6 +28,14 @@ pub extern "C" fn hifrostum_judge(packet: &[u8]) -> u8
     ensures { λ r. ⌜ r ≡ numberOf (judgeOf (now (packet .entry))) ⌝ }
 {
     judge::number(packet)
+}
+
+// The verdict on the fragments of one packet: those that a list describes in a buffer.
+#[no_mangle]
+pub extern "C" fn hifrostum_judge_fragments(buffer: &[u8], list: &[Fragment]) -> u8
+    ensures { λ r. ⌜ r ≡ numberOf (fragmentsOf (now (buffer .entry)) (now (list .entry))) ⌝ }
+{
+    verdicts::number(fragments::judge_fragments(buffer, list))
 }
 
 // Sets a packet's sum fields fresh.
