@@ -91,6 +91,28 @@ module _ (at : ℕ) (p : Piece) where
     fills-next [] l m z = absurd (omega arith)
     fills-next (q ∷ ps) l m z = simp (eq-eqb (p .begin) at e, m, eq-eqb (length (p .bytes) % 8) 0 z)
 
+-- what a filling says of its first piece, and of those behind it
+pub fills-begin : (at : ℕ) (p : Piece) (ps : List Piece) → fills at (p ∷ ps) ≡ true → p .begin ≡ at
+unfolding fills
+fills-begin at p [] f = eqb-true (p .begin) at (and-true (eqb (p .begin) at) _ f .0)
+fills-begin at p (q ∷ ps) f = eqb-true (p .begin) at (and-true (eqb (p .begin) at) _ f .0)
+
+pub record Behind (at : ℕ) (p : Piece) (ps : List Piece) : Type 0 where
+  pub more : p .more ≡ true
+  pub eights : length (p .bytes) % 8 ≡ 0
+  pub fills : fills (at + length (p .bytes)) ps ≡ true
+
+pub fills-behind : (at : ℕ) (p q : Piece) (ps : List Piece) → fills at (p ∷ q ∷ ps) ≡ true → Behind at p (q ∷ ps)
+unfolding fills
+fills-behind at p q ps f =
+    let m = and-true (p .more) _ (and-true (eqb (p .begin) at) _ f .1) in
+    let e = and-true (eqb (length (p .bytes) % 8) 0) _ (m .1) in
+    record { more = m .0; eights = eqb-true (length (p .bytes) % 8) 0 (e .0); fills = e .1 }
+
+pub fills-none : (at : ℕ) → fills at [] ≡ true → ⊥
+unfolding fills
+fills-none at f = true≢false (sym f)
+
 pub unfilled : (ps : List Piece) → fills 0 ps ≡ false → 0 ≡ filledOf ps
 unfolding filledOf
 unfilled ps f = simp f
@@ -128,17 +150,9 @@ Evens (p ∷ []) = Unit
 Evens (p ∷ q ∷ ps) = (length (p .bytes) % 2 ≡ 0) × Evens (q ∷ ps)
 
 pub fills-evens : (at : ℕ) (ps : List Piece) → fills at ps ≡ true → Evens ps
-unfolding fills
 fills-evens at [] e = tt
 fills-evens at (p ∷ []) e = tt
-fills-evens at (p ∷ q ∷ ps) e =
-    let rest = fills (at + length (p .bytes)) (q ∷ ps) in
-    let eights = eqb (length (p .bytes) % 8) 0 in
-    let x = and-true eights rest (and-true (p .more) (eights && rest) (and-true (eqb (p .begin) at) (p .more && (eights && rest)) e .1) .1) in
-    (even (length (p .bytes)) (eqb-true (length (p .bytes) % 8) 0 (x .0)), fills-evens (at + length (p .bytes)) (q ∷ ps) (x .1))
-  where
-    even : (n : ℕ) → n % 8 ≡ 0 → n % 2 ≡ 0
-    even n e = omega arith
+fills-evens at (p ∷ q ∷ ps) e = let b = fills-behind at p q ps e in let z = b .eights in (omega arith, fills-evens (at + length (p .bytes)) (q ∷ ps) (b .fills))
 
 pub evens-next : (p : Piece) (ps : List Piece) → Evens (p ∷ ps) → Evens ps
 evens-next p [] e = tt

@@ -157,6 +157,10 @@ addresses-equal xs ys bx cy lx ly =
     (λ f. f ∙ sym (by-cases (equal xs ys) (λ t. absurd (eqb-false (eightAt xs 0) (eightAt ys 0) f (ap (λ zs. eightAt zs 0) (equal-true xs ys t)))) (λ g. g)))
 
 -- ---- what fragments share
+pub alike-self : (p : Piece) → alike p p ≡ true
+unfolding alike
+alike-self p = simp (eq-eqb (p .identification) (p .identification) refl, eq-eqb (p .protocol) (p .protocol) refl, equal-same (p .addresses))
+
 module _ (b : List ℕ) (a c : ℕ) where
   pub alike-at : alike (pieceAt b a) (pieceAt b c)
       ≡ (eqb (wordAt b (a + 4)) (wordAt b (c + 4)) && (eqb (byteAt b (a + 9)) (byteAt b (c + 9)) && equal (pieceAt b a .addresses) (pieceAt b c .addresses)))

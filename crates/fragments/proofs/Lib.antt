@@ -6,5 +6,10 @@ pub mod Tails
 pub mod Gathering
 pub mod Calls
 pub mod Along
-pub mod Ruled
-pub mod Whole
+pub mod Messages
+pub mod Filling
+pub mod Sorting
+pub mod Wholes
+pub mod Reassembly
+pub mod Exists
+pub mod Examples
