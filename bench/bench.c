@@ -21,7 +21,8 @@
 #include "ways.h"
 
 enum operation { FIELD, CHAIN, JUDGE, MEND, LOWER, ADDRESS, STRETCH, PREFIX, GATHER, OPERATIONS };
-enum { LONGEST = 67000, MESSAGE = 65515, MOST = 64, PIECE = 63, BATCH = 64, ROUNDS = 3000, FEWER = 150 };
+enum { LONGEST = 67000, PIECE = 63, BATCH = 64, ROUNDS = 3000, FEWER = 150 };
+enum { MOST = 64, TINY = 8 * MOST, MESSAGE = 65515 }; /* fragments, and their shortest and longest message */
 
 static const char *const names[OPERATIONS] = {
     "field", "chain", "judge", "mend", "lower lifetime", "set address", "set stretch", "exchange prefix",
@@ -69,8 +70,9 @@ static const uint8_t new[16] = {0xFD, 0x12, 0x34, 0x56, 0x78, 0x9A, 0xBC, 0xDE, 
 enum packet { IPV4, IPV6, FRAGMENT4, FRAGMENT6, HOP_BY_HOP, PACKETS, WHOLE = PACKETS, TWO, THREE, ORDER, BACK, MIXED };
 enum { BETWEEN = 8 };
 static const char *const packets[] = {
-    "IPv4",           "IPv6",       "IPv4 fragment", "IPv6 fragment", "IPv6 hop-by-hop", "1, message of", "2, message of",
-    "3, message of", "64 in order, message of", "64 reversed, message of", "64 shuffled, message of",
+    "IPv4",          "IPv6",          "IPv4 fragment",           "IPv6 fragment",           "IPv6 hop-by-hop",
+    "1, message of", "2, message of", "3, message of",           "64 in order, message of", "64 reversed, message of",
+    "64 shuffled, message of",
 };
 
 /* Calls that are looked at more closely. */
@@ -230,7 +232,8 @@ static size_t gathered(uint8_t *buffer, enum packet kind, size_t message)
         put(p + 10, 0);
         put(p + 10, hifrostum_field(p, 20));
         memcpy(p + 20, packet + 20 + at, piece);
-        size_t i = kind == BACK ? count - 1 - records_len : kind == MIXED ? (37 * records_len + 5) % count : records_len;
+        size_t i = records_len;
+        i = kind == BACK ? count - 1 - i : kind == MIXED ? (37 * i + 5) % count : i;
         records[i] = (struct hifrostum_fragment){len, 20 + piece};
         len += 20 + piece;
     }
@@ -349,8 +352,9 @@ static int possible(struct row r)
 static void measure_all(int calls)
 {
     static const struct row lists[] = {
-        {GATHER, WHOLE, 40},   {GATHER, TWO, 1480},      {GATHER, TWO, 2960},     {GATHER, THREE, 1480},
-        {GATHER, THREE, 4000}, {GATHER, ORDER, MESSAGE}, {GATHER, BACK, MESSAGE}, {GATHER, MIXED, MESSAGE},
+        {GATHER, WHOLE, 40},      {GATHER, TWO, 1480},     {GATHER, TWO, 2960},      {GATHER, THREE, 1480},
+        {GATHER, THREE, 4000},    {GATHER, ORDER, TINY},   {GATHER, BACK, TINY},     {GATHER, MIXED, TINY},
+        {GATHER, ORDER, MESSAGE}, {GATHER, BACK, MESSAGE}, {GATHER, MIXED, MESSAGE},
     };
     for (enum operation op = 0; op < GATHER; op++)
         for (enum packet packet = 0; packet < PACKETS; packet++)

@@ -110,12 +110,12 @@ static void cut(struct asked *a, const uint8_t *p, size_t end)
 static void change(uint8_t *p)
 {
     static const uint8_t places[] = {4, 5, 6, 7, 9, 12, 15, 16, 19, 2, 3, 0};
-    size_t header = 4u * (p[0] & 15);
+    size_t header = 4u * (p[0] & 15), last = (LONGEST - (word(p + 2) - header)) / 8;
     switch (below(5)) {
     case 0: p[places[below(12)]] ^= (uint8_t)(1 << below(8)); break;
     case 1: put(p + 6, word(p + 6) ^ 0x2000); break;
     case 2: put(p + 2, below(3) ? header : word(p + 2) - below(9)); break;
-    case 3: put(p + 6, (word(p + 6) & 0x2000) | (below(2) ? (LONGEST - (word(p + 2) - header)) / 8 + below(2) : 8191)); break;
+    case 3: put(p + 6, (word(p + 6) & 0x2000) | (below(2) ? last + below(2) : 8191)); break;
     default: put(p + 6, word(p + 6) + below(3) - 1); break;
     }
     seal(p);
@@ -126,6 +126,7 @@ static void damage(struct asked *a)
 {
     struct hifrostum_fragment *record = a->list + below(a->count);
     size_t wraps = 0 - below(40), inside = record->offset < a->len;
+    struct hifrostum_fragment outside = {below(2) ? wraps : a->len + below(2), below(2) ? wraps : below(2)};
     switch (below(inside ? 12 : 7)) {
     case 0: a->buffer[below(a->len)] ^= (uint8_t)(1 << below(8)); break;
     case 1: record->length = below(2) ? below(24) : record->length - 1; break;
@@ -137,7 +138,7 @@ static void damage(struct asked *a)
         while (below(16) && a->count <= MOST)
             a->list[a->count++] = *record;
         break;
-    case 7: *record = (struct hifrostum_fragment){below(2) ? wraps : a->len + below(2), below(2) ? wraps : below(2)}; break;
+    case 7: *record = outside; break;
     case 8: a->buffer[record->offset] = (uint8_t)below(256); break;
     default: change(a->buffer + record->offset);
     }

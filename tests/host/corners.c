@@ -1011,7 +1011,7 @@ static void spoil_head(size_t i, enum head how)
 }
 
 /* Each of them in each of four records, with another in the same record or another, and with fragments that aren't of
- * one packet. */
+ * one packet, or of which one is empty. */
 static void heads(void)
 {
     for (size_t i = 0; i < FOURS * HEADS * 4 * (HEADS + 1) * 4; i++) {
@@ -1021,11 +1021,12 @@ static void heads(void)
         scatter(&p, 4);
         shuffle();
         size_t which = i / FOURS / HEADS % 4, second = any(4);
-        if (i % 3 == 0) {
-            uint8_t *packet = packet_at(any(4));
+        uint8_t *packet = packet_at(any(4));
+        if (i % 3 == 0)
             packet[12 + any(8)] ^= 1;
-            fresh_head(packet);
-        }
+        if (i % 3 == 1)
+            put(packet + 2, 4u * (packet[0] & 15));
+        fresh_head(packet);
         if (other < HEADS)
             spoil_head(second, other);
         spoil_head(which, how);
@@ -1130,9 +1131,9 @@ static void joined_multiples(void)
     group("messages in fragments, and multiples of 65535");
 }
 
-/* Messages shorter than their fixed header, of every protocol, and with every data offset and lengths that UDP may say
- * or not. The field is right for the message, for the first fragment's length in the pseudo-header, and as the covered
- * block may be misread. */
+/* Messages of every protocol, ones shorter than their fixed header too, and with every data offset and lengths that UDP
+ * may say or not. The field is right for the message, for the first fragment's length in the pseudo-header, and as the
+ * covered block may be misread. */
 static void joined_shapes(void)
 {
     for (size_t i = 0; i < FOURS * 256 * 4; i++) {
@@ -1166,7 +1167,7 @@ static void joined_shapes(void)
         p.bytes[9] = (uint8_t)turn;
         scatter(&p, 1 + any(6));
         hold_yard(kind);
-        p.bytes[9] = (uint8_t)kind->protocol;
+        p.bytes[9] = (uint8_t)(i % 3 ? kind->protocol : turn);
         put(p.bytes + 2, p.header + 1 + any(kind->fixed));
         scatter(&p, 1 + any(3));
         hold_orders(kind);

@@ -1,12 +1,12 @@
 /* Calls every exported function of the archive as a C host does.
  *
- * Each call is made three times: over buffers with guard bytes on both sides, over buffers at odd
- * addresses, and over buffers that end where memory that can't be touched begins. The three must
- * agree, no guard byte may change, and a refused call may change nothing at all. An empty buffer is
- * a null pointer in the first. Tails inside a packet also lie in memory that can't be touched, and so
- * does what headers between reach for behind a payload. Each packet that is judged is judged as a list
- * of one fragment too; fragments and their list lie in memory that can't be written, once in three.
- * What is wanted is the rules' or comes from the sums below.
+ * Each call is made four times: over buffers with guard bytes on both sides, over buffers at odd
+ * addresses, over buffers that end where memory that can't be touched begins, and over buffers that
+ * begin where it ends. The four must agree, no guard byte may change, and a refused call may change
+ * nothing at all. An empty buffer is a null pointer in the first. Tails inside a packet also lie in
+ * memory that can't be touched, and so does what headers between reach for behind a payload. Each
+ * packet that is judged is judged as a list of one fragment too; fragments and their list lie in memory
+ * that can't be written, once in four. What is wanted is the rules' or comes from the sums below.
  */
 #define _DEFAULT_SOURCE
 #include <stdio.h>
@@ -20,7 +20,10 @@
 /* fold_at and renewed, as they stand in the header's comment */
 #include "example.h"
 
-enum { GUARD = 64, FILL = 0xA5, LAYS = 3, SPACE = 1 << 21 };
+enum { GUARD = 64, FILL = 0xA5, SPACE = 1 << 21 };
+
+/* Where in a room a buffer lies: between guard bytes, between them at odd addresses, before a wall, behind one. */
+enum { GUARDED, ODDLY, BEFORE_WALL, BEHIND_WALL, LAYS };
 
 /* Counting checks */
 
@@ -48,7 +51,7 @@ static void group(const char *name)
     group_checks = checks;
 }
 
-/* Rooms: memory that is lent to one call, between guard bytes or before a wall */
+/* Rooms: memory that is lent to one call, between two walls, which can't be touched */
 
 struct room {
     uint8_t *map, *lent;
@@ -61,34 +64,36 @@ static struct room first, second, third, fourth;
 static void build(struct room *room)
 {
     size_t page = (size_t)sysconf(_SC_PAGESIZE);
-    room->map = mmap(NULL, SPACE + page, PROT_READ | PROT_WRITE, MAP_PRIVATE | MAP_ANONYMOUS, -1, 0);
-    if (room->map == MAP_FAILED || mprotect(room->map + SPACE, page, PROT_NONE) != 0) {
+    uint8_t *walls = mmap(NULL, SPACE + 2 * page, PROT_NONE, MAP_PRIVATE | MAP_ANONYMOUS, -1, 0);
+    if (walls == MAP_FAILED || mprotect(walls + page, SPACE, PROT_READ | PROT_WRITE) != 0) {
         perror("host: no memory");
         exit(1);
     }
+    room->map = walls + page;
 }
 
 /* Copies bytes into a room, in units of 1, 2, 4 or 8 bytes, with guard bytes around. */
 static void *lend(struct room *room, int lay, const void *bytes, size_t len, size_t unit)
 {
-    size_t start = lay == 2 ? SPACE - len : GUARD + (lay == 1 ? unit : 0);
-    room->lent = room->map + start;
+    const size_t starts[LAYS] = {GUARD, GUARD + unit, SPACE - len, 0};
+    room->lent = room->map + starts[lay];
     room->len = len;
     room->lay = lay;
-    memset(room->lent - GUARD, FILL, GUARD);
-    if (lay != 2)
+    if (lay != BEHIND_WALL)
+        memset(room->lent - GUARD, FILL, GUARD);
+    if (lay != BEFORE_WALL)
         memset(room->lent + len, FILL, GUARD);
     if (len > 0)
         memcpy(room->lent, bytes, len);
-    return lay == 0 && len == 0 ? NULL : room->lent;
+    return lay == GUARDED && len == 0 ? NULL : room->lent;
 }
 
 static void guards(const struct room *room)
 {
     int kept = 1;
     for (size_t i = 1; i <= GUARD; i++) {
-        kept &= room->lent[-(ptrdiff_t)i] == FILL;
-        kept &= room->lay == 2 || room->lent[room->len + i - 1] == FILL;
+        kept &= room->lay == BEHIND_WALL || room->lent[-(ptrdiff_t)i] == FILL;
+        kept &= room->lay == BEFORE_WALL || room->lent[room->len + i - 1] == FILL;
     }
     check(kept, "guard bytes");
 }
@@ -170,12 +175,12 @@ static unsigned judge_list(const uint8_t *buffer, size_t len, const struct hifro
     for (int lay = 0; lay < LAYS; lay++) {
         const uint8_t *b = lend(&first, lay, buffer, len, 1);
         const struct hifrostum_fragment *l = lend(&second, lay, list, count * sizeof *list, sizeof(size_t));
-        if (lay == 2) {
+        if (lay == BEFORE_WALL) {
             allow(&first, PROT_READ);
             allow(&second, PROT_READ);
         }
         unsigned verdict = hifrostum_judge_fragments(b, len, l, count);
-        if (lay == 2) {
+        if (lay == BEFORE_WALL) {
             allow(&first, PROT_READ | PROT_WRITE);
             allow(&second, PROT_READ | PROT_WRITE);
         }
@@ -2107,6 +2112,34 @@ static size_t good_four(unsigned protocol, size_t message)
     return len;
 }
 
+/* The rules' refusal of a fragment by its header, of which 20 bytes are there. */
+static unsigned ruled_header(const uint8_t *packet, size_t len)
+{
+    size_t header = 4u * (packet[0] & 15), declared = word(packet + 2);
+    if (packet[0] >> 4 != 4)
+        return 3;
+    if (header < 20 || declared < header)
+        return 4;
+    if (declared > len)
+        return 2;
+    return fold(weigh(packet, header)) == 0xFFFF ? 0 : 5;
+}
+
+/* The rules' verdict on the message of a whole packet, which is ICMP's, TCP's or UDP's over IPv4. */
+static unsigned ruled_message(const uint8_t *packet)
+{
+    const uint8_t *message = packet + start_of(packet);
+    size_t len = message_of(packet), fixed = packet[9] == 6 ? 20 : 8;
+    if (len < fixed)
+        return 4;
+    size_t said = packet[9] == 6 ? message[12] / 16 * 4u : packet[9] == 17 ? word(message + 4) : fixed;
+    if (said < fixed || said > len)
+        return 4;
+    if (packet[9] == 17 && word(message + 6) == 0)
+        return 1;
+    return message_sum(packet) == 0xFFFF ? 0 : 9;
+}
+
 /* Sets a word of a fragment, and its header's sum right again. */
 static void reword(size_t i, size_t at, size_t value)
 {
@@ -2254,10 +2287,9 @@ static void headings(void)
         packet_at(0)[0] = (uint8_t)(0x40 + words);
         put(packet_at(0) + 2, total);
         list[0].length = bytes;
-        if (words < 5 || total < 4 * words || total > bytes)
-            expect(judge_yard(), words < 5 || total < 4 * words ? 4 : 2, "a header length and a total length");
-        else
-            check(judge_yard() == 5 || fold(weigh(yard, 4 * words)) == 0xFFFF, "lengths that fit");
+        unsigned want = ruled_header(yard, bytes);
+        check(want != 0, "lengths, or a sum, that are wrong");
+        expect(judge_yard(), want, "a header length and a total length");
     }
 }
 
@@ -2311,7 +2343,7 @@ static void ends(void)
                 held = listed = 0;
                 lay(0, size, 0, 0);
                 reword(0, 6, 0x2000 * more + at);
-                unsigned want = 8 * at + size > 65515 ? 4 : at > 0 || more ? 6 : judge(yard, held);
+                unsigned want = 8 * at + size > 65515 ? 4 : at > 0 || more ? 6 : ruled_message(yard);
                 expect(judge_yard(), want, "a place and a length");
             }
         }
@@ -2612,24 +2644,24 @@ static void cut_anywhere(void)
         swap(i - 1, any(i));
 }
 
-/* One bit of a fragment's message, or of its header, is damaged. The message then has the verdict of the whole packet
- * with that damage; a header has its own, or 3 for version 6. */
+/* One bit of a fragment's header, or of its message, is damaged. A header has its own refusal then, and the message the
+ * verdict of the whole packet with that damage. */
 static void damage(size_t len)
 {
     size_t i = any(listed), header = start_of(packet_at(i)), bit = any(8);
     size_t at = any(word(packet_at(i) + 2)), from = 8u * (word(packet_at(i) + 6) & 0x1FFF);
     packet_at(i)[at] ^= (uint8_t)(1 << bit);
     if (at < header) {
-        uint8_t *packet = packet_at(i);
-        unsigned own = packet[0] >> 4 == 6 ? 3 : judge(packet, list[i].length);
-        check(own >= 2 && own <= 5, "a damaged header is seen");
+        unsigned own = ruled_header(packet_at(i), list[i].length);
+        check(own != 0, "a damaged header is seen");
         expect(judge_yard(), own, "one bit of a header damaged");
     } else {
         memcpy(q, p, len);
         q[20 + from + at - header] ^= (uint8_t)(1 << bit);
-        unsigned whole = judge(q, len);
+        unsigned whole = ruled_message(q);
         int tail = q[9] == 17 && from + at - header >= word(q + 24);
         check(tail || whole != 0, "a damaged message is seen");
+        expect(judge(q, len), whole, "one bit of a whole packet damaged");
         expect(judge_yard(), whole, "one bit of a message damaged");
     }
     packet_at(i)[at] ^= (uint8_t)(1 << bit);
@@ -2651,7 +2683,9 @@ static void exchange_one(size_t len)
     for (size_t j = from; j < from + size; j++)
         q[20 + j] = (uint8_t)(j * 59 + 7);
     memcpy(packet_at(i) + header, q + 20 + from, size);
-    expect(judge_yard(), judge(q, len), "one exchanged, of the same identification");
+    unsigned whole = ruled_message(q);
+    expect(judge(q, len), whole, "the whole packet with those bytes");
+    expect(judge_yard(), whole, "one exchanged, of the same identification");
     reword(i, 4, word(p + 4) ^ 0x0100);
     if (all > 1)
         expect(judge_yard(), 4, "one exchanged, of another identification");

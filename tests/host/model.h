@@ -120,6 +120,7 @@ enum branch {
     JOINED_OPTIONS, /* or headers of different lengths */
     JOINED_FLAGS,   /* or other flags, lifetimes and service bytes than the first */
     JOINED_OTHER,   /* its protocol isn't covered */
+    JOINED_FEW,     /* and it is shorter than any fixed header */
     JOINED_SHORT,   /* it is shorter than its fixed header */
     JOINED_LENGTH,  /* TCP's data offset or UDP's length doesn't fit it */
     JOINED_FITS,    /* and they fit, but wouldn't fit the first fragment */
@@ -749,6 +750,7 @@ static void meet_joined(const struct kind *built, struct packet *whole, size_t c
     unsigned protocol = whole->bytes[9];
     meet_parts(built, JOINED_LONGEST, len == LONGEST_MESSAGE);
     meet_parts(built, JOINED_OTHER, verdict == 7);
+    meet_parts(built, JOINED_FEW, verdict == 7 && len < 4);
     if (protocol != built->protocol)
         return;
     meet_parts(built, JOINED_SHORT, len < fixed);

@@ -7,12 +7,12 @@ import struct
 from scapy.utils import checksum
 
 from fragments import Fragment, number
+from judges import GOOD, MESSAGE_SUM, SHAPE, UNCOVERED, UNSUMMED
 from trailing import with_word
 
 MOST, LONGEST = 64, 65515  # fragments in a list, and bytes of a message
 MORE, DONT, RESERVED = 0x2000, 0x4000, 0x8000
 FIXED = {1: 8, 6: 20, 17: 8}
-GOOD, UNSUMMED, SHAPE, UNCOVERED, MESSAGE_SUM = 0, 1, 4, 7, 9
 fresh = itertools.cycle(range(0, 65536, 2))
 
 

@@ -1,157 +1,22 @@
 """Fragments judged by us: those of kernels that cut, scapy's and ours, in many orders, damaged, left out, doubled and
 exchanged. Held to tshark and to the other kernel, which put them together, and to what the rules say of the whole."""
-import itertools
-
-from scapy.layers.inet import ICMP, IP, TCP, UDP, IPOption_NOP, IPOption_RR, IPOption_Router_Alert, fragment
+from scapy.layers.inet import IP, UDP
 from scapy.packet import Raw
 
+from cutters import anywhere, by_message, captured, is_posted, scapy_cut, there
 from cutting import (
     DONT, LONGEST, MORE, MOST, RESERVED, cut, flipped, header_flipped, marked, numbered, orders, placed, record,
-    request, said, sealed, together, whole, with_byte, with_one, without_options,
+    request, said, sealed, whole, with_byte, with_one, without_options,
 )
-from fragments import Fragment, is_fragment, messages, number
-from judges import (
-    CUT, FRAGMENT, GOOD, HEADER_SUM, MESSAGE_SUM, PLACE, SHAPE, UNCOVERED, UNSUMMED, count, disagree, frames, is_full,
-    judged, ours, rng, tshark,
-)
+from fragments import Fragment, is_fragment, number
+from judges import CUT, FRAGMENT, GOOD, HEADER_SUM, PLACE, SHAPE, UNCOVERED, count, disagree, is_full, ours, rng
 from post import HERE, PORT, THERE
-from received import SAID, differing, longest
+from reassembly import check, judged_together, receivers, tshark_together, want_good
+from received import check_apart, longest
 from talk import OTHER
 from trailing import with_area
 
-SHUFFLES, MADE, POSTED, CLOSED = 8, 300, 120, 50506
-TO = [bytes([10, net, at, 2]) for net, at in ((99, 0), (98, 0), (97, 2))]  # the other kernel, as run.sh has it
-ROUTE = IPOption_RR(length=11, pointer=4, routers=["0.0.0.0"] * 2)
-OPTIONS = [[], [], [IPOption_NOP()], [IPOption_Router_Alert()], [ROUTE]]
-sides = []
-
-
-# Where fragments come from
-
-
-def captured(path):
-    """The messages that came in fragments over IPv4, each as its fragments in the order in which they came."""
-    packets = [frame[14:] for frame in frames(path) if frame[12:14] == b"\x08\x00"]
-    return by_message([data for data in packets if is_fragment(data)])
-
-
-def by_message(packets):
-    """The messages of fragments, but for those that tshark can't judge."""
-    found = messages(packets)
-    for message in found:
-        if message.whole is None:
-            disagree("a kernel's fragments don't fill a message", packets[message.last])
-    sets = [[packets[i] for i in message.places] for message in found if message.whole is not None]
-    return [fragments for fragments in sets if not is_full(whole(fragments))]
-
-
-def is_posted(fragments):
-    """Whether the other kernel shows what it makes of a message: a datagram for its socket, a segment for no
-    connection, and an echo."""
-    message, data = together(fragments), fragments[0]
-    shown = {1: message[0] == 8, 6: True, 17: number(message[2:4]) == PORT}
-    return data[16:20] in TO and shown.get(data[9], False)
-
-
-def scapy_whole(addresses, size):
-    """A packet of scapy's with so many bytes behind a UDP, TCP or ICMP header. To the other kernel it is for its
-    socket, for a port that is closed, or an echo."""
-    ports = {"sport": rng.randrange(1024, 65536)}
-    stamp = [("NOP", None), ("NOP", None), ("Timestamp", (rng.getrandbits(32), 7))]
-    message = rng.choice([
-        UDP(dport=PORT, **ports), UDP(dport=PORT, **ports), ICMP(id=rng.getrandbits(16), seq=rng.getrandbits(16)),
-        TCP(dport=CLOSED, flags=rng.choice(["S", "A", "PA"]), seq=rng.getrandbits(32), options=rng.choice([[], stamp]),
-            **ports),
-    ])
-    ip = IP(src=addresses[0], dst=addresses[1], ttl=rng.randrange(2, 256), id=rng.getrandbits(16),
-            tos=4 * rng.getrandbits(6), flags=rng.choice(["", "DF"]), options=rng.choice(OPTIONS))
-    return bytes(ip / message / Raw(rng.randbytes(size)))
-
-
-def scapy_cut(addresses):
-    """A packet of scapy's in 1 to 64 fragments by scapy; those of few fragments are tried more often."""
-    size = rng.choice([8, 16, 24, 56, 128, 552])
-    pieces = rng.choice([1, 2, 2, 3, 3, 4, 4, 5, rng.randrange(6, MOST - 4)])
-    data = scapy_whole(addresses, rng.randrange(size * (pieces - 1), size * pieces))
-    return [bytes(each) for each in fragment(IP(data), fragsize=size)]
-
-
-def anywhere():
-    return [".".join(map(str, rng.randbytes(4))) for _ in range(2)]
-
-
-def there():
-    return HERE[4], THERE[4]
-
-
-# The judges
-
-
-def judged_together(sets):
-    """Our verdicts on sets of fragments. None of them may change the buffer."""
-    requests = [request(rng, fragments) for fragments in sets]
-    answers = ours(requests)
-    for (*_, buffer), (_, after) in zip(requests, answers):
-        if buffer != after:
-            disagree("fragments judged by us: the buffer changed", after)
-    return [verdict for verdict, _ in answers]
-
-
-def tshark_together(sets):
-    """What tshark says of the messages that it puts together, in our verdict numbers, or of a header."""
-    found = iter(tshark([data for fragments in sets for data in fragments]))
-    return [[they for they in itertools.islice(found, len(fragments)) if they is not None] for fragments in sets]
-
-
-def kernel_together(post, sets):
-    """What the other kernel finds in the messages that it puts together, in our verdict numbers, and its datagrams."""
-    for got, taken, refused, wrong in post.all_together(sets):
-        yield [GOOD] * (len(got) + taken) + [MESSAGE_SUM] * wrong + [SHAPE] * (refused - wrong), got
-
-
-def heard(want, fragments, filled):
-    """What tshark finds, and a kernel, where the rules say this of fragments, which fill a message or don't. To a
-    kernel UDP without a sum is as good, and a wrong header isn't a message's. A length that contradicts is an error to
-    it, and tshark looks for no sum; but TCP's data offset past the message it doesn't count, and tshark does sum."""
-    if want in (GOOD, UNSUMMED, MESSAGE_SUM):
-        return [want], [GOOD if want == UNSUMMED else want]
-    if want == SHAPE and filled:
-        message = together(fragments)
-        past = fragments[0][9] == 6 and 4 * (message[12] >> 4) > len(message)
-        return ([MESSAGE_SUM], []) if past else ([], [SHAPE])
-    return [want] * (want == HEADER_SUM), []
-
-
-def datagrams(want, fragments):
-    """The datagrams that a socket gets of fragments with this verdict."""
-    message = together(fragments)
-    handed = want in (GOOD, UNSUMMED) and fragments[0][9] == 17
-    return [message[8:number(message[4:6])]] if handed else []
-
-
-def check(what, sets, wants, post=None, filled=True):
-    """Sets of fragments with the verdict of each: ours, what tshark finds in the message, and what the other kernel
-    does if they are for it. Of those that fill a message our judge says the same where it comes whole."""
-    agreed, kernel = 0, kernel_together(post, sets) if post else itertools.repeat(None)
-    wholes = judged([whole(fragments) for fragments in sets]) if filled else wants
-    rows = zip(sets, wants, wholes, judged_together(sets), tshark_together(sets), kernel)
-    for fragments, want, judge, we, they, other in rows:
-        find, found = heard(want, fragments, filled)
-        right = post is None or other == (found, datagrams(want, fragments))
-        if we == judge == want and they == find and right:
-            agreed += 1
-        else:
-            found = f"we say {we}, of the whole {judge}, tshark {they}, the other kernel {other}"
-            disagree(f"{what}: {want} wanted, {found}", b"".join(fragments))
-    count(what, agreed, len(sets))
-
-
-def want_good(fragments):
-    """The verdict on what nobody damaged."""
-    message = together(fragments)
-    if fragments[0][9] not in (1, 6, 17):
-        return UNCOVERED
-    return UNSUMMED if fragments[0][9] == 17 and message[6:8] == b"\0\0" else GOOD
+SHUFFLES, MADE, POSTED = 8, 300, 120
 
 
 # What is tried
@@ -243,6 +108,20 @@ def check_doubled(what, sets):
         else:
             disagree(f"one fragment doubled: we say {we}", b"".join(those))
     count(f"fragments {what}, one doubled; 6 for us", agreed, len(twice))
+
+
+def check_replaced(what, sets, post=None):
+    """One fragment doubled and another left out, so that their lengths are together the message's."""
+    gapped = []
+    for fragments in sets:
+        pieces = [Fragment(data) for data in fragments]
+        for i in some(fragments):
+            same = [j for j, part in enumerate(pieces) if part.more and len(part.piece) == len(pieces[i].piece)]
+            if pieces[i].more and len(same) > 1:
+                those = numbered(fragments)
+                gapped.append(mixed(with_one(those, i, those[rng.choice([j for j in same if j != i])])))
+    check(f"fragments {what}, one doubled in another's place; 6 for us, and no message for {receivers(post)}", gapped,
+          [FRAGMENT] * len(gapped), post, False)
 
 
 def kind(data):
@@ -346,10 +225,6 @@ def check_longest(post):
     check_missing("by hand, 64", sets, post)
 
 
-def receivers(post):
-    return "tshark and the other kernel" if post else "tshark"
-
-
 # Lists that are refused before a fragment is looked at
 
 
@@ -377,36 +252,6 @@ def check_lists(sets):
             disagree(f"a list that is refused: {want} wanted, answered {answer[0]} to {records.hex()}", buffer)
     count("fragments by scapy in a list with no record, an empty one, more than 64, or one outside; 2 or 10 for us",
           agreed, len(wrong))
-
-
-# Where the rules see otherwise than receivers do
-
-
-def check_apart(post):
-    """Fragments on which the judges differ, or might: each says what it has its reasons for."""
-    found = {}
-    for what, fragments, body in differing():
-        found.setdefault(what, []).append((fragments, body))
-    for what, want in SAID.items():
-        sets, agreed = [fragments for fragments, _ in found[what]], 0
-        rows = zip(found[what], judged_together(sets), tshark_together(sets), kernel_together(post, sets))
-        for (fragments, body), we, they, (other, got) in rows:
-            if (we, they, other) == want and got == [body] * len(other):
-                agreed += 1
-            else:
-                disagree(f"{what}: we, tshark and the other kernel say {we}, {they} and {other} for {want}",
-                         b"".join(fragments))
-        sides.append((what, len(sets), agreed, *want))
-
-
-def print_gathered():
-    """What each judge said of what the rules see otherwise than receivers do."""
-    words = {GOOD: "good", HEADER_SUM: "wrong header", MESSAGE_SUM: "wrong sum"}
-    ends = {GOOD: "handed on"}
-    print("| fragments | lists | so said | we | tshark | the other kernel |\n" + "|---" * 6 + "|")
-    for what, sets, agreed, we, theirs, kernels in sides:
-        said_by = [words[they] for they in theirs], [ends[they] for they in kernels]
-        print(f"| {what} | {sets} | {agreed} | {we} | {', '.join(said_by[0])} | {', '.join(said_by[1]) or 'dropped'} |")
 
 
 # All together
@@ -440,6 +285,7 @@ def check_sets(what, sets, post=None):
     check_damaged(what, few, post)
     check_missing(what, few, post)
     check_doubled(what, few)
+    check_replaced(what, few, post)
     check_exchanged(what, few, post)
     check_strangers(what, few, post)
 

@@ -19,7 +19,7 @@ from apart import BY_KERNEL, SAID, apart
 from between import TYPES, hand_put, long_put, missummed, scapy_put, unread
 from exchange import check_all_exchanged, print_exchanged, ways_between
 from fragments import Fragment, is_fragment, messages
-from gathered import check_all_gathered, print_gathered
+from gathered import check_all_gathered
 from headers import HOP, OPTIONS, ROUTING, routing, with_headers
 from judges import (
     FRAGMENT, GOOD, HEADER_SUM, MESSAGE_SUM, MISSING, OURS, SENT, SHAPE, UNCOVERED, UNSUMMED, Packet, addressed, asked,
@@ -27,6 +27,7 @@ from judges import (
     relayed, report, rng, spoilt, status, tshark,
 )
 from post import Post
+from received import print_gathered
 from trailing import right_if_summed, summed_past, with_area, with_areas, with_lengths, with_word
 
 MADE, ZEROS, FULLS, DAMAGES, STRETCHES = 1500, 60, 432, 4, 2

@@ -11,8 +11,9 @@ from cutting import (
     LONGEST, MOST, cut, dealt, evenly, flipped, header_flipped, numbered, placed, sealed, with_byte, with_one,
 )
 from fragments import Fragment
-from judges import rng
+from judges import GOOD, HEADER_SUM, MESSAGE_SUM, disagree, rng
 from post import HERE, PORT, THERE
+from reassembly import judged_together, kernel_together, tshark_together
 from trailing import with_word
 
 TWICE, AGAIN, INSIDE = "a fragment twice", "a fragment twice, the second time damaged", "a fragment inside another"
@@ -22,6 +23,8 @@ EMPTY, FIRST = "an empty fragment behind others", "an empty fragment before all 
 LONG, OPTION = "a message that ends past byte 65,515", "a message of 65,515 bytes, and options"
 CAPABLE, STRANGER = "service bytes of which one reports congestion", "another packet's fragment beside them"
 SPOILT, SIX = "a fragment, and before it the same with a wrong header", "an IPv6 packet beside them"
+
+sides = []
 
 # What is said of each: our verdict by the rules, and in the same numbers what tshark and the other kernel find in what
 # they put together.
@@ -121,3 +124,30 @@ def differing():
     for less, step in itertools.product((0, 1, 3), (1480, 3976)):
         first, *rest = longest(LONGEST - less, step)
         yield OPTION, [with_options(first), *rest], b""
+
+
+def check_apart(post):
+    """Fragments on which the judges differ, or might: each says what it has its reasons for."""
+    found = {}
+    for what, fragments, body in differing():
+        found.setdefault(what, []).append((fragments, body))
+    for what, want in SAID.items():
+        sets, agreed = [fragments for fragments, _ in found[what]], 0
+        rows = zip(found[what], judged_together(sets), tshark_together(sets), kernel_together(post, sets))
+        for (fragments, body), we, they, (other, got) in rows:
+            if (we, they, other) == want and got == [body] * len(other):
+                agreed += 1
+            else:
+                disagree(f"{what}: we, tshark and the other kernel say {we}, {they} and {other} for {want}",
+                         b"".join(fragments))
+        sides.append((what, len(sets), agreed, *want))
+
+
+def print_gathered():
+    """What each judge said of what the rules see otherwise than receivers do."""
+    words = {GOOD: "good", HEADER_SUM: "wrong header", MESSAGE_SUM: "wrong sum"}
+    ends = {GOOD: "handed on"}
+    print("| fragments | lists | so said | we | tshark | the other kernel |\n" + "|---" * 6 + "|")
+    for what, sets, agreed, we, theirs, kernels in sides:
+        said_by = [words[they] for they in theirs], [ends[they] for they in kernels]
+        print(f"| {what} | {sets} | {agreed} | {we} | {', '.join(said_by[0])} | {', '.join(said_by[1]) or 'dropped'} |")

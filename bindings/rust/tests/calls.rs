@@ -541,6 +541,13 @@ fn refused_fragments() {
     assert_eq!(judge_fragments(&buffer, &list), Verdict::Good);
     assert_eq!(judge_fragments(&[], &[at(0, 0); 64]), Verdict::Cut);
     assert_eq!(judge_fragments(&[], &[at(0, 0); 65]), Verdict::Place);
+    // every header is tested before fragments are compared
+    let (mut buffer, list) = cut(&whole(17, 40), 16);
+    buffer[list[1].offset + 5] ^= 1;
+    head(&mut buffer[list[1].offset..][..list[1].length]);
+    assert_eq!(judge_fragments(&buffer, &list), Verdict::Shape);
+    buffer[list[2].offset + 8] ^= 1;
+    assert_eq!(judge_fragments(&buffer, &list), Verdict::HeaderSum);
     // two bytes of each of two fragments are others, with the headers' sums right
     let spoiled = |first: (usize, [u8; 2]), last: (usize, [u8; 2])| {
         let (mut buffer, list) = cut(&whole(17, 40), 24);

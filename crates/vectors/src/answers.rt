@@ -135,7 +135,8 @@ fn numbers(bytes: &[u8], list: &mut [u32]) -> usize
     n
 }
 
-// The verdict on the fragments that payload two lists.
+// The verdict on the fragments that payload two lists, by the calls that `fragments::judge_fragments` makes: here the list
+// isn't one of structs.
 fn gathered(buffer: &[u8], second: &[u8]) -> Verdict {
     let n = second.len() / LISTED;
     let mut all = fragments::none();

@@ -16,7 +16,7 @@ pub type Piece = Vec<u8>;
 /// A fragment with a part of a packet's message. What fragments needn't share is random: options, service byte,
 /// lifetime, and the two other flags.
 pub fn piece(packet: &[u8], part: Range<usize>, random: &mut Random) -> Piece {
-    let words = if random.once_in(2) || part.len() > LONGEST - 40 { 5 } else { random.between(5, 15) };
+    let words = if random.once_in(4) && part.len() <= LONGEST - 40 { random.between(5, 15) } else { 5 };
     piece_of(packet, part, words, random)
 }
 

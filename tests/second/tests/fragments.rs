@@ -490,6 +490,13 @@ fn each_mistake_is_one() {
     assert!(told("outside to be cut", &buffer, &[record(0, 51)]));
     assert!(told("a record outside in its turn", &buffer, &[record(0, 0), record(0, 51)]));
     assert!(told("ends that wrap", &buffer, &[list[0], record(u64::MAX, 23)]));
+    assert!(told("messages that begin late", &buffer, &[list[1]]));
+    assert!(told("refused records not counted", &buffer, &[&[list[0]; 64][..], &[record(0, 0)]].concat()));
+    let mut wrong_sum = example();
+    wrong_sum[1][10] ^= 1;
+    let (wrong, both) = in_a_row(&wrong_sum);
+    assert!(told("the first header's sum alone", &wrong, &both));
+    assert!(!told("the first header's sum alone", &wrong, &[both[1], both[0]]));
     assert!(!FRAGMENT_MISTAKES.iter().any(|mistake| (mistake.verdict)(&buffer, &list, 0) == 10));
     for _ in 0..200 {
         let packet = any_packet(&mut random);

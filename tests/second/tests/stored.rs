@@ -53,7 +53,7 @@ fn fuzz_cases_are_well_formed_and_the_same_from_the_same_seed() {
 #[test]
 fn fuzz_reaches_long_chains_and_both_answers_of_a_join() {
     let mut bytes = Vec::new();
-    cases::fuzz(9, 120_000, &mut bytes).unwrap();
+    cases::fuzz(9, 250_000, &mut bytes).unwrap();
     let (mut input, mut desk, mut long, mut joins) = (&bytes[..], Desk::default(), 0, [0, 0]);
     while let Next::Case(case) = Case::read(&mut input).unwrap() {
         desk.lay(&case);

@@ -4,10 +4,11 @@
 use super::Maker;
 use crate::answer::*;
 use crate::draft::{balance_message, faults_of, refresh, spoil, write_word, Fault, Shape};
-use crate::fragments::{Record, LONGEST, MOST};
+use crate::fragments::{Bundle, Record, LONGEST, MOST};
 use crate::mistakes::MISTAKES;
 use crate::packet::{View, HEADER_FIELD, ICMP, ICMPV6, TCP, UDP};
 use crate::pieces::*;
+use crate::sums::{field, fold, total, Field};
 
 /// IPv4's protocols in the table.
 pub const KINDS: [(u8, u8); 3] = [(4, ICMP), (4, TCP), (4, UDP)];
@@ -56,7 +57,7 @@ impl Maker {
         self.shared_bytes();
         self.longest_messages();
         self.lifetimes_lowered_first();
-        for _ in 0..300 {
+        for _ in 0..120 {
             self.any_fragments();
         }
     }
@@ -76,6 +77,23 @@ impl Maker {
         let (buffer, list) = self.scattered(pieces);
         self.list(&buffer, &list);
         list
+    }
+
+    /// The same, and the last one lies in the buffer alone: the list has the others. All of them are answered.
+    fn listed_but_last(&mut self, pieces: &[Piece]) -> Vec<Record> {
+        let (buffer, list) = self.scattered(pieces);
+        self.list(&buffer, &list[..pieces.len() - 1]);
+        list
+    }
+
+    /// One more piece, which is one of the others with a byte of its message damaged. Which one is answered.
+    fn with_damaged(&mut self, pieces: &mut Vec<Piece>) -> usize {
+        let which = self.random.between(0, pieces.len() - 1);
+        let mut damaged = pieces[which].clone();
+        let view = View::new(&pieces[which]);
+        damaged[self.random.between(view.header_length(), view.end() - 1)] ^= 0x10;
+        pieces.push(damaged);
+        which
     }
 
     /// Fragments in any order in a buffer, perhaps with other bytes between them, and the list of them in the order
@@ -148,37 +166,34 @@ impl Maker {
         }
     }
 
-    /// Messages in 8-byte fragments, as many as may be and more, each good and damaged; and the record too many outside
-    /// the buffer, empty, or with a wrong header.
+    /// Messages in 8-byte fragments, as many as may be and more, forwards and backwards and with a damaged one; and the
+    /// record too many outside the buffer, empty, or with a wrong header.
     fn numbers_of_fragments(&mut self) {
-        for (kind, count) in KINDS.into_iter().flat_map(|kind| [1, 2, 3, 63, 64, 65, 66].map(|count| (kind, count))) {
-            let length = (8 * count).max(20) - self.random.pick(&[0, 1, 7]) * usize::from(count > 3);
-            let packet = self.whole(kind, length);
-            let places = every(8, length.min(8 * count));
-            let mut pieces = cut(&packet, &places[..count.min(places.len() + 1) - 1], &mut self.random);
-            let list = self.listed(&pieces);
-            let reversed: Vec<Record> = list.iter().rev().copied().collect();
-            self.list_again(&reversed);
-            for other in [record(self.desk.buffer.len(), 1), record(0, 0), record(list[0].offset as usize, 19)] {
-                for at in [0, list.len()] {
-                    let mut with = list.clone();
-                    with.insert(at, other);
-                    self.list_again(&with);
-                }
+        for (i, kind) in KINDS.into_iter().enumerate() {
+            for count in [1, 2, 3, 64, 65, [63, 66, 67][i]] {
+                let length = (8 * count).max(20) - self.random.pick(&[0, 1, 7]) * usize::from(count > 3);
+                let packet = self.whole(kind, length);
+                let places = every(8, 8 * count);
+                let mut pieces = cut(&packet, &places, &mut self.random);
+                let damaged = self.with_damaged(&mut pieces);
+                let mut list = self.listed_but_last(&pieces);
+                let odd = [record(self.desk.buffer.len(), 1), record(0, 0), record(list[0].offset as usize, 19)][i];
+                self.list_again(&[&[odd][..], &list[..count]].concat());
+                self.list_again(&[&list[..count], &[odd]].concat());
+                list.swap(damaged, count);
+                self.list_again(&list[..count]);
+                list.swap(damaged, count);
+                list.truncate(count);
+                list.reverse();
+                self.list_again(&list);
             }
-            let (damaged, place) = (self.random.between(0, pieces.len() - 1), self.random.between(0, 7));
-            let place =
-                View::new(&pieces[damaged]).header_length() + place % View::new(&pieces[damaged]).message_length();
-            pieces[damaged][place] ^= 0x10;
-            self.listed(&pieces);
         }
     }
 
     /// A wrong header sum in the last record of the list with a bad shape in the first, and other things of one kind
     /// before and behind things of another.
     fn bad_first_and_last(&mut self) {
-        let shapes = [Flaw::HeaderLength, Flaw::TotalLength];
-        let firsts = ALONE.into_iter().chain(MISFITS).chain(UNFILLED).chain(shapes);
+        let firsts = ALONE.into_iter().chain(MISFITS).chain(UNFILLED);
         for (one, other) in firsts.flat_map(|one| ALONE.map(|other| (one, other))) {
             let mut pieces = self.pieces((4, UDP), &[], 4);
             let (first, last) = (0, pieces.len() - 1);
@@ -188,14 +203,13 @@ impl Maker {
                 self.listed(&pieces);
                 continue;
             }
-            spoil_pieces(&mut pieces, one, &mut self.random);
             let mut wrong = pieces[first].clone();
             spoil_piece(&mut wrong, &[other], &mut self.random);
-            for at in [0, pieces.len()] {
-                let mut with = pieces.clone();
-                with.insert(at, wrong.clone());
-                self.listed(&with);
-            }
+            spoil_pieces(&mut pieces, one, &mut self.random);
+            pieces.push(wrong);
+            let mut list = self.listed(&pieces);
+            list.rotate_right(1);
+            self.list_again(&list);
         }
     }
 
@@ -256,22 +270,24 @@ impl Maker {
         }
     }
 
-    /// Messages of several lengths in fragments of any lengths, in order, backwards and in other orders.
+    /// Messages of several lengths in fragments of any lengths, in order, backwards and in another order; and so with a
+    /// damaged one.
     fn orders_of_many(&mut self, kind: (u8, u8)) {
-        for (length, most) in [(20, 2), (57, 4), (64, 8), (201, 9), (512, 33), (600, 64), (1480, 11)] {
-            let mut packet = self.whole(kind, length);
-            for _ in 0..2 {
-                let places = any_places(length, most - 1, &mut self.random);
-                let pieces = cut(&packet, &places, &mut self.random);
-                let mut list = self.listed(&pieces);
+        for (length, most) in [(20, 2), (57, 4), (64, 8), (201, 9), (512, 33), (1480, 11)] {
+            let packet = self.whole(kind, length);
+            let places = any_places(length, most - 1, &mut self.random);
+            let mut pieces = cut(&packet, &places, &mut self.random);
+            let damaged = self.with_damaged(&mut pieces);
+            let mut right = self.listed_but_last(&pieces);
+            let mut wrong = right.clone();
+            wrong.swap_remove(damaged);
+            right.pop();
+            self.list_again(&wrong);
+            for mut list in [right, wrong] {
                 list.reverse();
                 self.list_again(&list);
-                for _ in 0..3 {
-                    shuffle(&mut list, &mut self.random);
-                    self.list_again(&list);
-                }
-                let place = 20 + self.random.between(0, length - 1);
-                packet[place] ^= 1 << self.random.between(0, 7);
+                shuffle(&mut list, &mut self.random);
+                self.list_again(&list);
             }
         }
     }
@@ -345,7 +361,7 @@ impl Maker {
     /// Each flaw alone, in fragments in any order; and every fault of the message, and every two.
     fn flaws_alone(&mut self, kind: (u8, u8)) {
         for flaw in ALONE.into_iter().chain(MISFITS).chain(UNFILLED) {
-            for most in [2, 3, 6] {
+            for most in [2, 5] {
                 let mut pieces = self.pieces(kind, &[], most);
                 spoil_pieces(&mut pieces, flaw, &mut self.random);
                 self.listed(&pieces);
@@ -358,12 +374,13 @@ impl Maker {
         }
     }
 
-    /// Every two flaws, in one fragment and in two, in both orders of the list; each beside a record too many and one
-    /// outside the buffer; and each beside every fault of the message.
+    /// Every two flaws of fragments by themselves, in one and in two; every two of fragments together that are 4 and 6, in
+    /// both orders of the list; each beside records too many and one outside the buffer; and each beside every fault of the
+    /// message.
     fn pairs_of_flaws(&mut self) {
         let together: Vec<Flaw> = MISFITS.into_iter().chain(UNFILLED).collect();
         for (one, other) in ALONE.into_iter().flat_map(|one| ALONE.map(|other| (one, other))) {
-            for both_in_one in [false, true, true, true] {
+            for both_in_one in [false, true, true] {
                 let mut pieces = self.pieces((4, UDP), &[], 4);
                 let at = self.random.between(0, pieces.len() - 2);
                 if both_in_one {
@@ -375,13 +392,14 @@ impl Maker {
                 self.listed(&pieces);
             }
         }
-        for (i, one) in together.iter().enumerate() {
-            for other in together[i + 1..].iter().cycle().take(6 * (together.len() - i - 1)) {
-                let mut pieces = self.pieces((4, TCP), &[], 4);
-                spoil_pieces(&mut pieces, *one, &mut self.random);
-                spoil_pieces(&mut pieces, *other, &mut self.random);
-                shuffle(&mut pieces, &mut self.random);
-                self.listed(&pieces);
+        for (one, other) in MISFITS.into_iter().flat_map(|one| UNFILLED.map(|other| (one, other))) {
+            for _ in 0..4 {
+                let mut pieces = self.pieces((4, TCP), &[], 5);
+                spoil_pieces(&mut pieces, one, &mut self.random);
+                spoil_pieces(&mut pieces, other, &mut self.random);
+                let mut list = self.listed(&pieces);
+                list.reverse();
+                self.list_again(&list);
             }
         }
         for _ in 0..8 {
@@ -402,33 +420,37 @@ impl Maker {
             }
             let pieces = self.pieces(kind, &[fault], 4);
             self.beside_list_flaws(&pieces);
+            let mut with = pieces.clone();
             for flaw in ALONE {
-                let mut wrong = self.pieces(kind, &[fault], 4)[0].clone();
+                let mut wrong = pieces[0].clone();
                 spoil_piece(&mut wrong, &[flaw], &mut self.random);
-                let mut with = pieces.clone();
-                with.insert(self.random.between(0, pieces.len()), wrong);
-                self.listed(&with);
+                with.push(wrong);
             }
-            for flaw in together.iter().cycle().take(2 * together.len()) {
+            let list = self.listed(&with);
+            for wrong in &list[pieces.len()..] {
+                let mut with = list[..pieces.len()].to_vec();
+                with.insert(self.random.between(0, pieces.len()), *wrong);
+                self.list_again(&with);
+            }
+            for flaw in &together {
                 let mut pieces = self.pieces(kind, &[fault], 4);
                 spoil_pieces(&mut pieces, *flaw, &mut self.random);
-                self.listed(&pieces);
+                let mut list = self.listed(&pieces);
+                list.reverse();
+                self.list_again(&list);
             }
         }
     }
 
-    /// A list with a record outside the buffer at each end, and with the same records again until they are too many, each
-    /// of them as the one too many.
+    /// A list with a record outside the buffer at each end; and with the same records again until there are 64, and then
+    /// each of them, and the one outside, as one too many.
     fn beside_list_flaws(&mut self, pieces: &[Piece]) {
         let list = self.listed(pieces);
         let outside = record(self.desk.buffer.len(), 1);
         self.list_again(&[vec![outside], list.clone()].concat());
         self.list_again(&[list.clone(), vec![outside]].concat());
         let many: Vec<Record> = list.iter().cycle().take(MOST).copied().collect();
-        for last in list.iter().chain([&outside]) {
-            self.list_again(&[&many[..], &[*last]].concat());
-        }
-        self.list_again(&[&[outside], &many[..]].concat());
+        self.list_again(&[many, list, vec![outside]].concat());
     }
 
     /// Ways that fragments can lie: flags of every kind in two and three of them, lengths beside multiples of 8, one
@@ -479,15 +501,16 @@ impl Maker {
         for datagram in 8..=40 {
             let packet =
                 Shape { trailing: 40 - datagram, ..Shape::plain((4, UDP), datagram - 8) }.good(&mut self.random);
-            let wrong = MISTAKES.iter().map(|mistake| {
+            let mut pieces = cut(&packet, &[8, 16, 24], &mut self.random);
+            for mistake in &MISTAKES {
                 let (view, mut packet) = (View::new(&packet), packet.clone());
                 write_word(&mut packet, view.field_place(), mistake.field(&view).0);
-                packet
-            });
-            for packet in [packet.clone()].into_iter().chain(wrong) {
-                let mut pieces = cut(&packet, &[8, 16, 24], &mut self.random);
-                shuffle(&mut pieces, &mut self.random);
-                self.listed(&pieces);
+                pieces.push(piece(&packet, 0..8, &mut self.random));
+            }
+            let (buffer, list) = self.scattered(&pieces);
+            self.list(&buffer, &[list[3], list[0], list[2], list[1]]);
+            for first in &list[4..] {
+                self.list_again(&[list[2], list[1], *first, list[3]]);
             }
         }
         for length in [0, 1, 7, 8, 39, 40, 41, 48, 65_515, 65_535] {
@@ -591,32 +614,51 @@ impl Maker {
         self.list_again(&[record(0, within + 27), record(within, last.len())]);
     }
 
-    /// Messages of 65,515 bytes and one less, in one record, in two, and in 64; and with other last fragments, which end
-    /// a byte later and more.
+    /// Messages of 65,515 bytes, one less and one more in 64 fragments, in two orders: one whose fragments lie apart, as it
+    /// is and with a damaged one, and others whose fragments share most of their bytes.
     fn longest_messages(&mut self) {
         let packet = self.whole((4, UDP), LONGEST);
-        self.judged_and_listed(&packet);
-        for (kind, length) in [((4, UDP), LONGEST), ((4, TCP), LONGEST - 1)] {
-            let packet = self.whole(kind, length);
-            let mut pieces = cut(&packet, &every((length / MOST + 8) / 8 * 8, length), &mut self.random);
-            shuffle(&mut pieces, &mut self.random);
-            let mut list = self.listed(&pieces);
+        let mut pieces = cut(&packet, &every(1024, LONGEST), &mut self.random);
+        shuffle(&mut pieces, &mut self.random);
+        let damaged = self.with_damaged(&mut pieces);
+        let mut list = self.listed_but_last(&pieces);
+        list.swap_remove(damaged);
+        self.list_again(&list);
+        for (protocol, length) in [(UDP, LONGEST), (TCP, LONGEST - 1), (ICMP, LONGEST), (ICMP, LONGEST + 1)] {
+            let (buffer, mut list) = self.overlaid((4, protocol), length);
+            self.list(&buffer, &list);
             list.reverse();
             self.list_again(&list);
         }
-        let (packet, border) = (self.whole((4, ICMP), LONGEST), LONGEST / 8 * 8 - 16);
-        let mut pieces = cut(&packet, &[border], &mut self.random);
-        for length in [LONGEST - 1, LONGEST + 1, LONGEST + 5, LONGEST + 20, LONGEST + 21] {
-            let mut other = pieces[1].clone();
-            set_length(&mut other, length - border);
-            pieces.push(other);
+    }
+
+    /// A message in 64 fragments of 1,024 bytes, the last one shorter. Their headers stand in a row, the first fragment's
+    /// at its end, and what a fragment carries goes on through the headers behind its own: so the buffer is short. The sum
+    /// is made right by the first fragment's last word, which no other has.
+    fn overlaid(&mut self, kind: (u8, u8), length: usize) -> (Vec<u8>, Vec<Record>) {
+        let size = 1024;
+        let packet = self.whole(kind, size + 8);
+        let (mut buffer, mut list) = (Vec::new(), Vec::new());
+        for start in (0..MOST).map(|i| i * size).rev() {
+            let mut header = piece_of(&packet, 0..size, 5, &mut self.random);
+            header.truncate(20);
+            let (end, more) = (20 + size.min(length - start), if start + size < length { MORE } else { 0 });
+            write_word(&mut header, 2, end as u16);
+            set_flags(&mut header, more | (start / 8) as u16);
+            list.push(record(buffer.len(), end));
+            buffer.extend(header);
         }
-        let (buffer, list) = in_a_row(&pieces);
-        self.list(&buffer, &list[..2]);
-        for last in &list[1..] {
-            self.list_again(&[list[0], *last]);
-            self.list_again(&[*last, list[0]]);
+        let message = buffer.len();
+        buffer.extend(&View::new(&packet).message()[..size]);
+        if kind.1 == UDP {
+            write_word(&mut buffer, message + 4, length as u16);
         }
+        let last = buffer.len() - 2;
+        write_word(&mut buffer, last, 0);
+        let whole = Bundle::new(list.iter().filter_map(|record| record.within(&buffer))).whole();
+        let Field(missing) = field(fold(total(&View::new(&whole).covered_block())));
+        write_word(&mut buffer, last, missing);
+        (buffer, list)
     }
 
     /// The first fragment stands at the buffer's start, so that the lifetime edit takes it: afterwards the answer is the
@@ -675,7 +717,8 @@ impl Maker {
         }
     }
 
-    /// A message of any length in any number of fragments, in two orders, right or damaged in one byte.
+    /// A message of any length in any number of fragments, in two orders, right or damaged in one byte; now and then one
+    /// of them is refused by itself.
     pub fn any_long_fragments(&mut self) {
         let (kind, longest) = (self.random.pick(&KINDS), self.random.pick(&[600, 600, 2000, 9000, LONGEST]));
         let count =
@@ -690,6 +733,10 @@ impl Maker {
         let places = if length < 2000 { any_places(length, count - 1, &mut self.random) } else { every(bytes, length) };
         let mut pieces = cut(&packet, &places, &mut self.random);
         shuffle(&mut pieces, &mut self.random);
+        if self.random.once_in(4) {
+            let (at, flaw) = (self.random.between(0, pieces.len() - 1), self.random.pick(&ALONE));
+            spoil_piece(&mut pieces[at], &[flaw], &mut self.random);
+        }
         let mut list = self.listed(&pieces);
         shuffle(&mut list, &mut self.random);
         self.list_again(&list);

@@ -5,6 +5,7 @@ use super::sums::big_endian;
 use super::{Calls, Maker};
 use crate::answer::*;
 use crate::draft::{declare, faults_of, refresh, spoil, Fault, Shape, KINDS, PASSED_OVER};
+use crate::fragments::Record;
 use crate::packet::{View, ICMP, ICMPV6, TCP, UDP};
 
 /// Faults that no edit refuses, but for 0000 in UDP over IPv6.
@@ -392,6 +393,7 @@ impl Maker {
             self.long(&packet, kind.0);
             let pieces = [0, 65_535, 1, 65_534, 0, 65_535, 65_535, 0, 7, 65_001, 0, 65_535];
             self.again(CHAIN, 0, &big_endian(&pieces));
+            self.again(FRAGMENTS, 0, &list_payload(&[Record { offset: 0, length: packet.len() as u64 }]));
         }
         for kind in [(4, ICMP), (6, TCP)] {
             let packet = self.filled(Shape { tail: 65_600, ..Shape::plain(kind, 21) }, 0xFF);

@@ -187,6 +187,9 @@ impl Cover {
                 self.reach(format!("{NAME}, a fragment to {}: {verdict}", end(part)));
             }
         }
+        if all.parts.iter().any(|part| !all.ends(part) && part.message_length() % 8 != 0) {
+            self.reach(format!("{NAME}, a length that is no multiple of 8: {verdict}"));
+        }
         let last = all.parts.iter().filter(|part| !part.more_fragments()).count();
         self.reach(format!("{NAME}, {} without more to come: {verdict}", last.min(3)));
     }
@@ -259,7 +262,7 @@ impl Cover {
             1 + all.parts.iter().filter(|part| start(part) < at).count()
         };
         if [LONGEST - 1, LONGEST].contains(&length) {
-            self.reach(format!("{NAME}, {kind} of {length} bytes: {verdict}"));
+            self.reach(format!("{NAME}, {kind} of {length} bytes in {}: {verdict}", all.parts.len()));
         }
         self.reach(format!("{NAME}, {kind} of {} length: {verdict}", parity(length as u64)));
         let row = TABLE.iter().find(|row| row.protocol == protocol && length >= row.fixed);
@@ -427,6 +430,7 @@ fn wanted_filled() -> Vec<String> {
     let mut wanted = Vec::new();
     let ends = [(LONGEST - 1, GOOD), (LONGEST, GOOD), (LONGEST + 1, SHAPE)];
     wanted.extend(ends.map(|(end, verdict)| format!("{NAME}, a fragment to {end}: {verdict}")));
+    wanted.extend([SHAPE, FRAGMENT].map(|verdict| format!("{NAME}, a length that is no multiple of 8: {verdict}")));
     let last = [(0, FRAGMENT), (1, GOOD), (1, FRAGMENT), (2, FRAGMENT), (3, FRAGMENT)];
     wanted.extend(last.map(|(last, verdict)| format!("{NAME}, {last} without more to come: {verdict}")));
     for (kind, verdict) in
@@ -466,10 +470,17 @@ fn wanted_carried() -> Vec<String> {
     wanted.push(format!("{NAME}, UDP in IPv4, field 0000: {UNSUMMED}"));
     wanted.push(format!("{NAME}, ICMP in IPv4 of zeros, field 0000: {MESSAGE_SUM}"));
     wanted.push(format!("{NAME}, ICMP in IPv4 of zeros, field FFFF: {GOOD}"));
-    wanted.extend(
-        [(ICMP, LONGEST), (UDP, LONGEST), (TCP, LONGEST - 1)]
-            .map(|(protocol, length)| format!("{NAME}, {} of {length} bytes: {GOOD}", kind_name((4, protocol)))),
-    );
+    for (protocol, length, count, verdict) in [
+        (ICMP, LONGEST, MOST, GOOD),
+        (TCP, LONGEST - 1, MOST, GOOD),
+        (UDP, LONGEST, MOST, GOOD),
+        (UDP, LONGEST, MOST, MESSAGE_SUM),
+        (TCP, LONGEST, 1, GOOD),
+        (UDP, LONGEST, 1, GOOD),
+    ] {
+        let kind = kind_name((4, protocol));
+        wanted.push(format!("{NAME}, {kind} of {length} bytes in {count}: {verdict}"));
+    }
     for nth in [1, 2] {
         wanted.extend((5..16).map(|offset| format!("{NAME}, data offset {offset} in fragment {nth}: {GOOD}")));
         wanted.extend(

@@ -14,10 +14,11 @@ pub struct FragmentMistake {
 }
 
 #[rustfmt::skip]
-pub const FRAGMENT_MISTAKES: [FragmentMistake; 28] = [
+pub const FRAGMENT_MISTAKES: [FragmentMistake; 31] = [
     FragmentMistake { name: "an empty list is 10",                verdict: |_, list, right| if list.is_empty() { PLACE } else { right } },
     FragmentMistake { name: "64 are too many",                    verdict: |_, list, right| if list.len() == MOST { PLACE } else { right } },
     FragmentMistake { name: "65 aren't too many",                 verdict: any_number },
+    FragmentMistake { name: "refused records not counted",        verdict: sound_counted },
     FragmentMistake { name: "ends that wrap",                     verdict: wrapped },
     FragmentMistake { name: "a record outside in its turn",       verdict: outside_in_turn },
     FragmentMistake { name: "outside to be cut",                  verdict: outside_cut },
@@ -26,12 +27,14 @@ pub const FRAGMENT_MISTAKES: [FragmentMistake; 28] = [
     FragmentMistake { name: "IPv6 by its own rules",              verdict: six_by_its_rules },
     FragmentMistake { name: "the smallest refusal of all",        verdict: |buffer, list, right| refusal_by(buffer, list, right, |all| all.min()) },
     FragmentMistake { name: "the last refusal of all",            verdict: |buffer, list, right| refusal_by(buffer, list, right, |all| all.last()) },
+    FragmentMistake { name: "the first header's sum alone",       verdict: first_header_alone },
     FragmentMistake { name: "all tests fragment by fragment",     verdict: one_by_one },
     FragmentMistake { name: "6 before 4",                         verdict: unfilled_first },
     FragmentMistake { name: "put together in list order",         verdict: |buffer, list, right| judged(buffer, list, right, in_list_order) },
     FragmentMistake { name: "only in order",                      verdict: only_in_order },
     FragmentMistake { name: "overlaps taken",                     verdict: |buffer, list, right| unless(buffer, list, right, &["overlap"]) },
     FragmentMistake { name: "gaps taken for zeros",               verdict: |buffer, list, right| unless(buffer, list, right, &["gap", "no multiple of 8"]) },
+    FragmentMistake { name: "messages that begin late",           verdict: late },
     FragmentMistake { name: "more-fragments not looked at",       verdict: |buffer, list, right| unless(buffer, list, right, &["no more before the end", "more behind the end"]) },
     FragmentMistake { name: "identification not looked at",       verdict: |buffer, list, right| unless(buffer, list, right, &["another identification"]) },
     FragmentMistake { name: "protocol not looked at",             verdict: |buffer, list, right| unless(buffer, list, right, &["another protocol"]) },
@@ -89,6 +92,14 @@ fn any_number(buffer: &[u8], list: &[Record], right: Verdict) -> Verdict {
 /// The verdict on fragments that passed by themselves.
 fn together(all: &Bundle) -> Verdict {
     TESTS.iter().find(|test| fails(all, test)).map_or_else(|| judge(&all.whole()), |test| test.number)
+}
+
+/// Only records that pass by themselves are too many.
+fn sound_counted(buffer: &[u8], list: &[Record], right: Verdict) -> Verdict {
+    let packets: Vec<&[u8]> = list.iter().filter_map(|record| record.within(buffer)).collect();
+    let refusals: Vec<Verdict> = packets.iter().filter_map(|packet| refused(packet)).collect();
+    let few = packets.len() == list.len() && list.len() - refusals.len() <= MOST;
+    refusals.first().copied().filter(|_| few).unwrap_or(right)
 }
 
 /// Offset plus length in 64 bits.
@@ -154,6 +165,22 @@ fn refusal_by(
     }
 }
 
+/// The other headers' sums aren't looked at.
+fn first_header_alone(buffer: &[u8], list: &[Record], right: Verdict) -> Verdict {
+    let packets = match listed(buffer, list) {
+        Ok(packets) => packets,
+        Err(_) => return right,
+    };
+    let refusals = packets.iter().enumerate().filter_map(|(i, packet)| refused(packet).map(|refusal| (i, refusal)));
+    let found = refusals.map(|(i, refusal)| if i > 0 && refusal == HEADER_SUM { None } else { Some(refusal) });
+    let found: Vec<Option<Verdict>> = found.collect();
+    match found.iter().flatten().next() {
+        Some(refusal) => *refusal,
+        None if found.is_empty() => right,
+        None => together(&Bundle::new(packets)),
+    }
+}
+
 /// What is 4 of fragments together is tested as each of them comes.
 fn one_by_one(buffer: &[u8], list: &[Record], right: Verdict) -> Verdict {
     let packets = match listed(buffer, list) {
@@ -177,6 +204,21 @@ fn unfilled_first(buffer: &[u8], list: &[Record], right: Verdict) -> Verdict {
         Some(all) if TESTS.iter().any(|test| test.number == FRAGMENT && fails(&all, test)) => FRAGMENT,
         _ => right,
     }
+}
+
+/// Fragments fill a message from wherever the first of them begins.
+fn late(buffer: &[u8], list: &[Record], right: Verdict) -> Verdict {
+    let all = match sound(buffer, list) {
+        Some(all) if right == FRAGMENT => all,
+        _ => return right,
+    };
+    let begin = all.parts.iter().map(start).min();
+    let others = TESTS.iter().any(|test| test.name != "gap" && fails(&all, test));
+    let gaps = TESTS.iter().filter(|test| test.name == "gap").flat_map(|test| (test.at_fault)(&all));
+    if others || gaps.into_iter().any(|i| Some(start(&all.parts[i])) != begin) {
+        return right;
+    }
+    judge(&all.packet_with(&all.message()[begin.unwrap_or(0)..]))
 }
 
 fn in_list_order(all: &Bundle) -> Vec<u8> {
