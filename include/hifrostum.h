@@ -1,7 +1,7 @@
 /* Hifrostum: judges, mends and edits the checksums of IP packets.
  *
  * Link with libhifrostum.a, an ELF archive for x86-64 Linux:  cc host.c libhifrostum.a
- * Its code may stand in a shared object too. Of other libraries it needs C's memcpy and memset alone.
+ * Its code may stand in a shared object too, and it needs no other library.
  *
  * Who owns what. Every buffer stays the caller's. It is lent for one call, which keeps no pointer,
  * allocates nothing and has no state, so calls on different buffers may run at once. Buffers lent to

@@ -1,24 +1,22 @@
 -- Pieces one after another: what each adds to their shape, their filling, their bytes and their sum.
-use mathlib.Core.Path.{_≡_, refl, sym, ap, ap₂, _∙_}
-use Prim.Native.Nat.{ℕ, zero, suc, _+_, _-_, _*_, _%_, _≤_, _<_}
+use mathlib.Core.Path.{_≡_, refl, sym, ap, _∙_}
+use Prim.Native.Nat.{ℕ, _+_, _-_, _%_, _≤_, _<_}
 use native.Mathlib.Nat.{add-zero}
 use native.Mathlib.Numerals.{add-one}
 use native.Mathlib.Decide.{decLt}
 use native.Mathlib.Omega.{arith}
-use mathlib.Core.List.{List, [], _∷_, _++_, map, append-nil}
-use mathlib.Core.Bool.{Bool, true, false, not, _&&_, _||_, true≢false}
+use mathlib.Core.List.{List, [], _∷_, _++_, append-nil}
+use mathlib.Core.Bool.{true, false, true≢false}
 use lib.ListN.{length, take, drop, getD, length-append, length-map, length-drop, drop-of-length-le, List·getD-append}
 use lib.Seq.{drop-cons, take-append-le, take-append-add, take-all, take-nil, getD-append-add}
-use lib.Dec.{eqb, ltb}
+use lib.Dec.{eqb}
 use borrow.Author.Tests.{eqb-true, eq-eqb, ne-eqb, lt-ltb, le-ltb}
-use Rattle.verdicts.specs.Choice.{if_then_else_}
-use Rattle.verdicts.proofs.Tests.{by-cases, and-true}
+use Rattle.verdicts.proofs.Tests.{and-true}
 use Rattle.sums.specs.Total.{odd, weigh}
 use Rattle.sums.proofs.Totals.{weigh-even}
 use Rattle.wire.specs.Bytes.{byteAt}
-use Rattle.fragments.specs.Fragments.{Piece, equal, alike, sharedWith, someEmpty, somePast, fills, together}
+use Rattle.fragments.specs.Fragments.{Piece, alike, fills, together}
 use Rattle.fragments.specs.Gathered.{pieceAt, piecesAt, shapedOf, filledOf}
-use Rattle.fragments.proofs.Headers.{equal-same}
 
 -- ---- those from a place of the list on
 abbrev pub left : List ℕ → List ℕ → ℕ → List Piece
@@ -173,10 +171,13 @@ cut-weigh p ps n e = elim (decLt n (length (p .bytes))) [
   where
     none : (k : ℕ) → k ≡ 0 → weigh true (take n (p .bytes)) + weigh true (take k (together ps)) ≡ weigh true (take n (p .bytes))
     none k z = ap (λ i. weigh true (take n (p .bytes)) + weigh true (take i (together ps))) z ∙ add-zero (weigh true (take n (p .bytes)))
+
     back : (a i : ℕ) → a ≤ i → i ≡ a + (i - a)
     back a i l = omega arith
+
     even : (k : ℕ) → k % 2 ≡ 0 → odd k ≡ false
     even k z = ne-eqb (k % 2) 1 (λ e. absurd (omega arith))
+
     join : (ps : List Piece) → Evens (p ∷ ps) → weigh true (p .bytes ++ take (n - length (p .bytes)) (together ps)) ≡ weigh true (p .bytes) + weigh true (take (n - length (p .bytes)) (together ps))
     join [] e = ap (weigh true) (ap (λ xs. p .bytes ++ xs) (take-nil (n - length (p .bytes))) ∙ append-nil (p .bytes)) ∙ sym (ap (λ xs. weigh true (p .bytes) + weigh true xs) (take-nil (n - length (p .bytes))) ∙ add-zero (weigh true (p .bytes)))
     join (q ∷ ps) e = weigh-even true (p .bytes) (take (n - length (p .bytes)) (together (q ∷ ps))) (even (length (p .bytes)) (e .0))

@@ -1,4 +1,4 @@
--- Three bytes of ICMP echo behind its header, in two fragments: each statement is computed.
+-- Three bytes of ICMP echo behind its header, in two fragments, and what the theorems' premises are for: computed from the definitions.
 use mathlib.Core.Path.{_≡_, refl, sym, _∙_}
 use Prim.Native.Nat.{ℕ}
 use mathlib.Core.List.{List, [], _∷_, _++_, List·Memᴰ·head}

@@ -5,16 +5,16 @@ use native.Mathlib.Omega.{arith}
 use native.Mathlib.Decide.{decLt}
 use native.Mathlib.Nat.{add-zero, add-assoc}
 use mathlib.Core.List.{List, [], _∷_}
-use mathlib.Core.Bool.{Bool, true, false, _&&_, true≢false}
+use mathlib.Core.Bool.{true, _&&_, true≢false}
 use lib.ListN.{length, take, drop, length-take, length-drop, List·getD-eq-default}
 use lib.Seq.{getD-drop, drop-drop, ext-getD}
 use lib.Dec.{eqb}
-use borrow.Author.Tests.{eqb-true, eqb-false, eq-eqb, ne-eqb}
+use borrow.Author.Tests.{eqb-true, eqb-false, eq-eqb}
 use Rattle.verdicts.proofs.Tests.{by-cases, and-true}
 use Rattle.sums.specs.Low.{twoAt, fourAt, eightAt}
 use Rattle.wire.specs.Bytes.{byteAt, wordAt, Bytes, part}
-use Rattle.wire.specs.Outer.{four, headerEnd, declaredEnd}
-use Rattle.wire.proofs.Facts.{OuterFacts, outer-facts}
+use Rattle.wire.specs.Outer.{headerEnd, declaredEnd}
+use Rattle.wire.proofs.Facts.{outer-facts}
 use Rattle.wire.proofs.Parts.{part-length, part-byte}
 use Rattle.fragments.specs.Fragments.{Piece, pieceOf, equal, alike}
 use Rattle.fragments.specs.Gathered.{pieceAt, Arrived}
@@ -113,29 +113,40 @@ eights xs ys bx cy e = λ k l. at k l
   where
     d6 : List ℕ → ℕ
     d6 zs = byteAt zs 6 + 256 * byteAt zs 7
+
     d5 : List ℕ → ℕ
     d5 zs = byteAt zs 5 + 256 * d6 zs
+
     d4 : List ℕ → ℕ
     d4 zs = byteAt zs 4 + 256 * d5 zs
+
     d3 : List ℕ → ℕ
     d3 zs = byteAt zs 3 + 256 * d4 zs
+
     d2 : List ℕ → ℕ
     d2 zs = byteAt zs 2 + 256 * d3 zs
+
     d1 : List ℕ → ℕ
     d1 zs = byteAt zs 1 + 256 * d2 zs
 
     e0 : (byteAt xs 0 ≡ byteAt ys 0) × (d1 xs ≡ d1 ys)
     e0 = digit (byteAt xs 0) (byteAt ys 0) (d1 xs) (d1 ys) (bx 0) (cy 0) (omega (arith, e))
+
     e1 : (byteAt xs 1 ≡ byteAt ys 1) × (d2 xs ≡ d2 ys)
     e1 = digit (byteAt xs 1) (byteAt ys 1) (d2 xs) (d2 ys) (bx 1) (cy 1) (e0 .1)
+
     e2 : (byteAt xs 2 ≡ byteAt ys 2) × (d3 xs ≡ d3 ys)
     e2 = digit (byteAt xs 2) (byteAt ys 2) (d3 xs) (d3 ys) (bx 2) (cy 2) (e1 .1)
+
     e3 : (byteAt xs 3 ≡ byteAt ys 3) × (d4 xs ≡ d4 ys)
     e3 = digit (byteAt xs 3) (byteAt ys 3) (d4 xs) (d4 ys) (bx 3) (cy 3) (e2 .1)
+
     e4 : (byteAt xs 4 ≡ byteAt ys 4) × (d5 xs ≡ d5 ys)
     e4 = digit (byteAt xs 4) (byteAt ys 4) (d5 xs) (d5 ys) (bx 4) (cy 4) (e3 .1)
+
     e5 : (byteAt xs 5 ≡ byteAt ys 5) × (d6 xs ≡ d6 ys)
     e5 = digit (byteAt xs 5) (byteAt ys 5) (d6 xs) (d6 ys) (bx 5) (cy 5) (e4 .1)
+
     e6 : (byteAt xs 6 ≡ byteAt ys 6) × (byteAt xs 7 ≡ byteAt ys 7)
     e6 = digit (byteAt xs 6) (byteAt ys 6) (byteAt xs 7) (byteAt ys 7) (bx 6) (cy 6) (e5 .1)
 

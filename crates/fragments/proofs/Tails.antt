@@ -1,24 +1,23 @@
 -- A record's packet, and the one that begins there and has the rest of the buffer for a tail: their pieces are the same.
-use mathlib.Core.Path.{_≡_, sym, ap, ap₂, _∙_}
-use Prim.Native.Nat.{ℕ, _+_, _-_, _*_, _/_, _%_, _≤_, _<_}
+use mathlib.Core.Path.{_≡_, sym, ap, _∙_}
+use Prim.Native.Nat.{ℕ, _+_, _-_, _/_, _≤_}
 use native.Mathlib.Omega.{arith}
 use mathlib.Core.List.{List}
-use mathlib.Core.Bool.{true, false, true≢false}
-use lib.ListN.{length, take, drop, length-drop}
+use mathlib.Core.Bool.{true, true≢false}
+use lib.ListN.{length, drop, length-drop}
 use lib.Seq.{length-take-le, getD-take}
 use lib.Dec.{eqb}
-use borrow.Author.Tests.{not-false}
 use Rattle.verdicts.specs.Rules.{clear}
 use Rattle.verdicts.proofs.Rules.{clear-both}
 use Rattle.verdicts.proofs.Tests.{by-cases}
-use Rattle.wire.specs.Bytes.{byteAt, wordAt, part}
-use Rattle.wire.specs.Outer.{four, six, versionOf, header4Of, headerEnd, declaredEnd, outerRules}
+use Rattle.wire.specs.Bytes.{part}
+use Rattle.wire.specs.Outer.{four, headerEnd, declaredEnd, outerRules}
 use Rattle.wire.specs.Inner.{UpToTail}
 use Rattle.wire.proofs.Facts.{OuterFacts, outer-facts}
-use Rattle.wire.proofs.Writes.{Agree, agree-part, agree-word}
+use Rattle.wire.proofs.Writes.{Agree, agree-part}
 use Rattle.wire.proofs.Tails.{tail-order, tail-layout}
 use Rattle.judge.specs.Judge.{headerSumRule}
-use Rattle.fragments.specs.Fragments.{Piece, packetRules, pieceOf}
+use Rattle.fragments.specs.Fragments.{packetRules, pieceOf}
 use Rattle.fragments.specs.Gathered.{pieceAt, Arrived}
 
 -- an IPv4 packet whose outer shape nothing refuses
@@ -80,6 +79,13 @@ module _ (b : List ℕ) (at size : ℕ) (h : at + size ≤ length b) (c : clear 
       let l = long in
       let a = agree in
       rw (
-        a .same 4 (omega arith), a .same 5 (omega arith), a .same 6 (omega arith), a .same 7 (omega arith), a .same 9 (omega arith), agree-part a 12 8 (omega arith),
-        header, declared, agree-part a (headerEnd p) (declaredEnd p - headerEnd p) (omega arith),
+        a .same 4 (omega arith),
+        a .same 5 (omega arith),
+        a .same 6 (omega arith),
+        a .same 7 (omega arith),
+        a .same 9 (omega arith),
+        agree-part a 12 8 (omega arith),
+        header,
+        declared,
+        agree-part a (headerEnd p) (declaredEnd p - headerEnd p) (omega arith),
       )

@@ -8,8 +8,8 @@ use lib.ListN.{length, take, drop, length-take}
 use lib.Seq.{take-take}
 use lib.Dec.{eqb}
 use borrow.Author.Tests.{le-ltb, eqb-true, eqb-false, eq-eqb, ne-eqb, not-false}
-use Rattle.verdicts.specs.Rules.{Rule, _⇒_, verdictBy, clear}
-use Rattle.verdicts.specs.declared.Verdict.the-variants.{Good, Shape}
+use Rattle.verdicts.specs.Rules.{Rule, verdictBy, clear}
+use Rattle.verdicts.specs.declared.Verdict.the-variants.{Good}
 use Rattle.verdicts.specs.declared.Verdict.the-variants as verdict
 use Rattle.verdicts.proofs.Tests.{by-cases, or-false}
 use Rattle.verdicts.proofs.Rules.{first-append, first-same, clear-first, clear-both}
@@ -25,9 +25,9 @@ use Rattle.wire.specs.declared.Family.the-variants.{Four}
 use Rattle.wire.proofs.Facts.{outer-facts, start-four, walk-four, facts}
 use Rattle.wire.proofs.Parts.{bytes-part}
 use Rattle.wire.proofs.Held.{family4}
-use Rattle.cover.specs.Sums.{headerSums, messageTotal, messageSums}
+use Rattle.cover.specs.Sums.{messageTotal, messageSums}
 use Rattle.judge.specs.Judge.{headerSumRule, sumRulesBy, sumRules, judgeRules, judgeOf}
-use Rattle.fragments.specs.Fragments.{Piece, someOutside, packetOf, packetsOf, listRules, packetRules, packetsRules, pieceOf, insert, sortedWith, sorted, together, sharedWith, someEmpty, somePast, fills, messageRules, fillingRules, piecesRules, piecesIn, fragmentsRules, fragmentsOf}
+use Rattle.fragments.specs.Fragments.{Piece, someOutside, packetOf, packetsOf, listRules, packetRules, packetsRules, pieceOf, insert, sortedWith, together, sharedWith, someEmpty, somePast, fills, messageRules, fillingRules, piecesRules, piecesIn, fragmentsRules, fragmentsOf}
 use Rattle.fragments.specs.Wholes.{Filling, Unfragmented, Carries, Placed}
 use Rattle.fragments.specs.declared.Fragment.{Fragment}
 use Rattle.fragments.proofs.Tails.{packet-outer, packet-four}

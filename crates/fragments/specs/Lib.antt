@@ -1,4 +1,4 @@
--- The fragments of one packet: ticket 6.
+-- The fragments of one packet: the verdict on them, what is kept of a list, and what theorems speak of.
 pub mod Fragments
 pub mod Gathered
 pub mod Wholes

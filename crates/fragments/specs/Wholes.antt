@@ -34,9 +34,9 @@ pub record Carries (buffer : List ℕ) (fs : List Fragment) (q : List ℕ) : Typ
   pub message : carriedOf q ≡ together (piecesIn buffer fs)
 
 -- a piece that none of the three tests of shape refuses when it is alone: it isn't empty, and ends no later than message byte 65,515
-pub record Placed (m : Piece) : Type 0 where
-  pub some : 0 < length (m .bytes)
-  pub within : m .begin + length (m .bytes) ≤ 65515
+pub record Placed (p : Piece) : Type 0 where
+  pub some : 0 < length (p .bytes)
+  pub within : p .begin + length (p .bytes) ≤ 65515
 
 -- ---- the message put together, in RFC 791's words
 -- m has a piece's bytes where they begin, and ends with them if none follow

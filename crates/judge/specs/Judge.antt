@@ -13,17 +13,16 @@ use Rattle.cover.specs.Sums.{headerSums, messageSums}
 abbrev pub headerSumRule : List ℕ → List Rule
 headerSumRule p = (not (headerSums p) ⇒ HeaderSum) ∷ []
 
--- UDP zero: 8 over IPv6, 1 over IPv4
-abbrev pub missingRule : List ℕ → List Rule
-missingRule p = (silentOf p && not (four p) ⇒ Missing) ∷ []
+-- of any message, whatever carries it: silent if it is UDP's with the field 0000, four if it goes over IPv4, sums if its sum is right
+abbrev pub missingBy : (silent four : Bool) → List Rule
+missingBy silent four = (silent && not four ⇒ Missing) ∷ []
 
--- of any message, whatever carries it: whether it is UDP's with zero, over IPv4, and its sum right
 abbrev pub sumRulesBy : (silent four sums : Bool) → List Rule
-sumRulesBy silent four sums =
-    (silent && not four ⇒ Missing)
-    ∷ (silent && four ⇒ Unsummed)
-    ∷ (not sums ⇒ MessageSum)
-    ∷ []
+sumRulesBy silent four sums = missingBy silent four ++ ((silent && four ⇒ Unsummed) ∷ (not sums ⇒ MessageSum) ∷ [])
+
+-- and of a packet's
+abbrev pub missingRule : List ℕ → List Rule
+missingRule p = missingBy (silentOf p) (four p)
 
 unfoldable pub sumRules : List ℕ → List Rule
 sumRules p = sumRulesBy (silentOf p) (four p) (messageSums p)

@@ -139,13 +139,14 @@ fn numbers(bytes: &[u8], list: &mut [u32]) -> usize
 // isn't one of structs.
 fn gathered(buffer: &[u8], second: &[u8]) -> Verdict {
     let n = second.len() / LISTED;
+    let mut places: [usize; 64] = [0; 64];
     let mut all = fragments::none();
     let mut i: usize = 0;
     while i < n {
-        all = fragments::with(buffer, all, fragment_at(second, i * LISTED));
+        all = fragments::with(buffer, &mut places, all, fragment_at(second, i * LISTED));
         i += 1;
     }
-    fragments::over(buffer, all)
+    fragments::over(buffer, &places, all)
 }
 
 fn fragment_at(bytes: &[u8], at: usize) -> Fragment

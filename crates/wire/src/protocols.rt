@@ -12,9 +12,9 @@ ghost use Prim.Native.Nat.{_+_, _≤_};
 ghost use Rattle.wire.specs.Inner.{innerOf, Carrying};
 
 // Where lengths stand in a message.
-const DATA_OFFSET: usize = 12;
+pub const DATA_OFFSET: usize = 12;
 
-const UDP_LENGTH: usize = 4;
+pub const UDP_LENGTH: usize = 4;
 
 // ICMP and ICMPv6 say no length of their own: the packet is asked for by the contract alone.
 pub fn icmp(packet: &[u8], c: Carried, protocol: u8, plan: Plan) -> Part

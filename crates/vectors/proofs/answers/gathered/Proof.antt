@@ -1,29 +1,27 @@
 -- What is kept of the records stays such as `with` and `over` ask for.
-use mathlib.Core.Path.{_≡_, refl}
+use mathlib.Core.Path.{refl, sym, subst}
 use Prim.Native.Nat.{_-_, _≤_}
 use native.Mathlib.Omega.{arith}
-use lib.ListN.{length}
 use borrow.Author.Needs.{needs}
-use Rattle.fragments.specs.Gathered.{nothing, Kept}
-use Rattle.fragments.proofs.Gathering.{with-long, kept-none, kept-with}
+use Rattle.fragments.specs.Gathered.{Kept, held}
+use Rattle.fragments.proofs.Gathering.{kept-none, kept-with}
 use Rattle.vectors.proofs.answers.gathered.Statement.{statement}
 use Rattle.vectors.proofs.answers.gathered.Tie as tie
 
 abbrev Inv-loop : tie.InvT-loop
-Inv-loop buffer second n all₀ i₀ all i = (i ≤ n) × (length (all .places) ≡ 64) × Kept buffer all
+Inv-loop buffer second n places₀ all₀ i₀ places all i = (i ≤ n) × Kept buffer (held places all)
 
 abbrev μ-loop : tie.MeasureT-loop
-μ-loop buffer second n all₀ i₀ all i = n - i
+μ-loop buffer second n places₀ all₀ i₀ places all i = n - i
 
 loop-holds : tie.Need-loop-holds Inv-loop μ-loop
-unfolding nothing
-loop-holds c = let e = c .none .ensures in (omega arith, rw e refl, rw e (kept-none _))
+loop-holds c = (omega arith, rw (c .none .ensures) (kept-none _ _ refl))
 
 loop-again : tie.Need-loop-again Inv-loop μ-loop
 loop-again c =
-    let h = c .before .before .before .loop .inv in
-    let e = c .with .ensures in
-    (omega arith, rw e (with-long _ _ _ (h .1)), rw e (kept-with _ _ _ (h .1) (h .2)))
+    let w = c .before in
+    let l = w .before .before .before .before in
+    (omega arith, subst (Kept _) (sym (w .with .ensures)) (kept-with _ _ _ (l .loop .inv .1)))
 
 pub gathered-spec : {M : Type 1} → statement M
 gathered-spec =
@@ -33,11 +31,13 @@ gathered-spec =
     μ-loop
     (λ c κs. search needs)
     loop-holds
+    (λ c. let k = c .before .before .loop .inv .1 .long in omega arith)
     (λ c. omega arith)
     (λ c κs. omega arith)
-    (λ c κs. c .before .before .loop .inv .2)
+    (λ c κs. c .before .before .before .loop .inv .1)
     (λ c. omega arith)
     (λ c. omega arith)
     loop-again
-    (λ c κs. c .before .loop .inv .2)
+    (λ c. let k = c .before .before .loop .inv .1 .long in omega arith)
+    (λ c κs. c .before .before .loop .inv .1)
     (λ c. tt))
