@@ -146,7 +146,7 @@ bench/cycles.sh "ours$before$same" $out/bench $old
 echo
 if $x86 native; then
     $x86 run $out/bench times >$out/times
-    echo "Nanoseconds for each call (best of 3,000 batches, of 150 for 64 fragments, in turns;"
+    echo "Nanoseconds for each call (best of 3,000 batches, of 150 for longer messages, in turns;"
     echo "$(sed -n 's/^model name[^:]*: *//p' /proc/cpuinfo | head -n 1)):"
     echo
     table plain "ours$plain" <$out/times

@@ -62,7 +62,7 @@ enum hifrostum_verdict {
     HIFROSTUM_GOOD = 0,        /* all sums in use pass, or the call was done */
     HIFROSTUM_UNSUMMED = 1,    /* the IPv4 header passes, the UDP field is 0000 */
     HIFROSTUM_CUT = 2,         /* no bytes, or fewer than a header has or than declared; no fragments */
-    HIFROSTUM_VERSION = 3,     /* the version is not 4 or 6; not the one that a call takes alone */
+    HIFROSTUM_VERSION = 3,     /* the version is not 4 or 6, or not the one that the call takes */
     HIFROSTUM_SHAPE = 4,       /* a length contradicts another; fragments that can't be of one packet */
     HIFROSTUM_HEADER_SUM = 5,  /* the IPv4 header doesn't pass */
     HIFROSTUM_FRAGMENT = 6,    /* a fragment, or a fragment header; fragments that fill no message */
