@@ -83,6 +83,32 @@ pub extern "C" fn hifrostum_exchange_prefix(
     verdicts::number(prefix::exchange_prefix(packet, side, expected, new))
 }
 
+// Builds a UDP packet in a buffer's first bytes.
+#[no_mangle]
+pub extern "C" fn hifrostum_build_udp(
+    source: &[u8],
+    destination: &[u8],
+    source_port: u16,
+    destination_port: u16,
+    lifetime: u8,
+    body: &[u8],
+    buffer: &mut [u8],
+    length: &mut usize,
+) -> u8 {
+    let built = build::build_udp(
+        source,
+        destination,
+        source_port,
+        destination_port,
+        lifetime,
+        body,
+        buffer,
+    );
+    let v = built.verdict;
+    *length = built.length;
+    verdicts::number(v)
+}
+
 // One verdict number for each record of a capture.
 #[no_mangle]
 pub extern "C" fn hifrostum_judge_capture(

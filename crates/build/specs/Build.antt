@@ -1,0 +1,38 @@
+-- What building answers, and the buffer that it leaves: request 13.
+use Prim.Native.Nat.{ℕ}
+use mathlib.Core.List.{List, [], _∷_}
+use mathlib.Core.Bool.{Bool, not, _||_}
+use lib.ListN.{length}
+use lib.Dec.{ltb, eqb}
+use Rattle.verdicts.specs.Rules.{Rule, _⇒_, first}
+use Rattle.verdicts.specs.declared.Verdict.{Verdict}
+use Rattle.verdicts.specs.declared.Verdict.the-variants.{Good, Place, Spent, Room}
+use Rattle.wire.specs.Bytes.{put}
+use Rattle.build.specs.Layout.{Asked, packetOf, sizeOf}
+use Rattle.build.specs.declared.Built.{Built}
+
+-- an address of 4 or of 16 bytes
+unfoldable pub sized : List ℕ → Bool
+sized address = eqb (length address) 4 || eqb (length address) 16
+
+-- place: an address of another size, two sizes, a body of over 1,400 bytes; spent; room
+unfoldable pub buildRules : Asked → (room : ℕ) → List Rule
+buildRules a room =
+    (not (sized (a .source)) ⇒ Place)
+    ∷ (not (sized (a .destination)) ⇒ Place)
+    ∷ (not (eqb (length (a .source)) (length (a .destination))) ⇒ Place)
+    ∷ (ltb 1400 (length (a .body)) ⇒ Place)
+    ∷ (eqb (a .lifetime) 0 ⇒ Spent)
+    ∷ (ltb room (sizeOf a) ⇒ Room)
+    ∷ []
+
+-- beside a refusal the length is 0
+abbrev pub refusal : Verdict → Built
+refusal v = record { verdict = v; length = 0 }
+
+-- the answer, and the buffer afterwards: a refusal leaves it as it was, and else the packet stands in its first bytes
+unfoldable pub builtOf : Asked → List ℕ → Built × List ℕ
+builtOf a buffer =
+    first (buildRules a (length buffer))
+    (λ v. (refusal v, buffer))
+    (record { verdict = Good; length = length (packetOf a) }, put buffer 0 (packetOf a))

@@ -1,0 +1,3 @@
+-- A packet that is built: its bytes, and when it is refused.
+pub mod Layout
+pub mod Build
