@@ -1,4 +1,4 @@
-/* Hifrostum: judges, mends and edits the checksums of IP packets.
+/* Hifrostum: judges, mends and edits the checksums of IP packets, and builds UDP packets.
  *
  * Link with libhifrostum.a, an ELF archive for x86-64 Linux:  cc host.c libhifrostum.a
  * Its code may stand in a shared object too, and it needs no other library.
@@ -55,7 +55,7 @@ extern "C" {
 
 /* The version of this surface. It goes up by one whenever a function, a constant, or what an answer
  * means is added, changed or taken away; CHANGELOG.md says what a host's author must do then. */
-#define HIFROSTUM_SURFACE_VERSION 8
+#define HIFROSTUM_SURFACE_VERSION 9
 
 /* What a call answers. */
 enum hifrostum_verdict {
@@ -69,13 +69,13 @@ enum hifrostum_verdict {
     HIFROSTUM_UNCOVERED = 7,   /* a protocol not covered in this family, or headers not walked */
     HIFROSTUM_MISSING = 8,     /* UDP over IPv6 with the field 0000 */
     HIFROSTUM_MESSAGE_SUM = 9, /* the message doesn't pass */
-    HIFROSTUM_PLACE = 10,      /* a piece, length, stretch, side, address, prefix or list doesn't fit */
-    HIFROSTUM_SPENT = 11,      /* the lifetime is 0 or 1 */
+    HIFROSTUM_PLACE = 10,      /* an unfit piece, length, stretch, side, address, prefix, list or body */
+    HIFROSTUM_SPENT = 11,      /* the lifetime is 0 or 1; of a packet to be built, 0 */
     HIFROSTUM_BLANK = 12,      /* an ICMP message that is, or would be, all zeros */
     HIFROSTUM_MARK = 13,       /* a capture without the mark "GLR" */
     HIFROSTUM_EDITION = 14,    /* a capture of another version than 1 */
     HIFROSTUM_RECORD = 15,     /* a capture with a damaged record */
-    HIFROSTUM_ROOM = 16        /* more records than places for verdicts */
+    HIFROSTUM_ROOM = 16        /* more records than places for verdicts, or packet than buffer */
 };
 
 /* The verdict on a packet: 0 or 1, or the first refusal. Changes nothing.
@@ -170,6 +170,31 @@ uint8_t hifrostum_exchange_prefix(uint8_t *packet, size_t len, uint32_t side,
  * before or after. */
 uint8_t hifrostum_set_stretch(uint8_t *packet, size_t len, size_t place,
                               const uint8_t *bytes, size_t bytes_len);
+
+/* The longest body that hifrostum_build_udp takes, and the longest packet that it builds. So many bytes
+ * of buffer are enough for any; over IPv4 1,428 are. */
+#define HIFROSTUM_BODY_MOST 1400
+#define HIFROSTUM_PACKET_MOST 1448
+
+/* Builds a UDP packet in the buffer's first bytes, and hands back its length in *length. Addresses of
+ * 4 bytes make it IPv4, 28 bytes longer than the body, and addresses of 16 make it IPv6, 48 longer.
+ * What the buffer held doesn't matter, and its bytes behind the packet stay. Addresses and body are
+ * read only: they may overlap one another, but not the buffer, where the body is copied to.
+ * IPv4 gets a header without options, with service byte, identification, flags and fragment offset 0;
+ * IPv6 has class and flow label 0 and no header between. Ports are numbers, as they are said: 5000,
+ * not htons(5000). Any ports and any address bytes are taken, and any lifetime but 0: with 1 the
+ * packet gets to the next station and no further. The sums are fresh. UDP's is never left out, and
+ * FFFF is written where it comes to 0000, over IPv4 too. So hifrostum_judge says 0 of every packet
+ * built, and hifrostum_mend leaves it as it is.
+ * IPv4 packets all have the identification 0: if two are cut into fragments on their way, a station
+ * may mix these up. Keep packets so short that no link on the way cuts them.
+ * Refusals, with *length set to 0: 10 unless both addresses have 4 bytes or both have 16, and if the
+ * body has more than 1,400; 11 if the lifetime is 0; 16 if the buffer is shorter than the packet. */
+uint8_t hifrostum_build_udp(const uint8_t *source, size_t source_len,
+                            const uint8_t *destination, size_t destination_len,
+                            uint16_t source_port, uint16_t destination_port, uint8_t lifetime,
+                            const uint8_t *body, size_t body_len,
+                            uint8_t *buffer, size_t buffer_len, size_t *length);
 
 /* Judges each record of a capture: "GLR", the 16-bit version 1, then records of a 16-bit length (0
  * to 2,048) and that many bytes. Writes one verdict number a record, in order, into verdicts, and

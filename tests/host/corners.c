@@ -1,8 +1,9 @@
 /* Packets that meet the rare branches by design: totals that are multiples of 65535, fields at 0000, FFFF and beside
  * them, changes of 0, 1 and 65534; messages of every length at every address modulo 32; lifetimes in packets that no
  * other edit takes; prefixes whose words are corners, and every word behind one; UDP datagrams that end before their
- * message does; headers between, such as a walk gets past and such as it doesn't; and messages in fragments, which lie
- * in one buffer in any order, right and with each thing that can be wrong.
+ * message does; headers between, such as a walk gets past and such as it doesn't; messages in fragments, which lie
+ * in one buffer in any order, right and with each thing that can be wrong; and packets that are built, of every size, or
+ * refused for each reason and each two together.
  *
  * What is wanted is the answer of model.h. After each call the verdict and every byte are compared, and in the end each
  * rare branch of the model must have been taken. Each packet that is judged is also judged as a list of one fragment.
@@ -1175,6 +1176,203 @@ static void joined_shapes(void)
     group("messages in fragments, and their shapes");
 }
 
+/* Packets that are built */
+
+/* The kinds that are: UDP over IPv4 and over IPv6, with no tail and no header between. */
+static const struct kind *const owns[] = {&kinds[2], &kinds[5]};
+enum { OWNS = 2, ROOMIEST = 1800 };
+
+/* Where addresses and body of the next status lie. Their bytes are random. */
+static uint8_t ends[2][40], body[2048];
+
+/* A status of a kind with so many bytes of body. */
+static struct status status_of(const struct kind *kind, size_t len)
+{
+    size_t size = kind->family == 4 ? 4 : 16;
+    for (size_t i = 0; i < sizeof ends; i++)
+        ends[i / 40][i % 40] = (uint8_t)any(256);
+    for (size_t i = 0; i < len; i++)
+        body[i] = (uint8_t)any(256);
+    return (struct status){kind,       ends[0], ends[1], body, size, size, len, corners[any(CORNERS)],
+                           any(65536), 1 + any(255)};
+}
+
+static size_t size_of(const struct status *s)
+{
+    return (s->source_len == 4 ? 28 : 48) + s->body_len;
+}
+
+static unsigned call_build(const struct status *s, uint8_t *buffer, size_t len, size_t *length)
+{
+    return hifrostum_build_udp(s->source, s->source_len, s->destination, s->destination_len, (uint16_t)s->source_port,
+                               (uint16_t)s->destination_port, (uint8_t)s->lifetime, s->body, s->body_len, buffer, len,
+                               length);
+}
+
+/* Whether the packet, found as the model finds a message, says what it was built from, and nothing else. */
+static int reads_back(const struct status *s, const uint8_t *bytes, size_t len)
+{
+    static struct packet got;
+    size_t size = s->source_len, from = s->built->family == 4 ? 12 : 8;
+    got.built = got.kind = s->built;
+    got.len = len;
+    memcpy(got.bytes, bytes, len);
+    return refused(&got) == 0 && judge(&got) == 0 && end_of(&got) == len && got.header == from + 2 * size &&
+           memcmp(bytes + from, s->source, size) == 0 && memcmp(bytes + from + size, s->destination, size) == 0 &&
+           bytes[s->built->family == 4 ? 8 : 7] == s->lifetime && word(bytes + got.header) == s->source_port &&
+           word(bytes + got.header + 2) == s->destination_port && covered_len(&got) == message_len(&got) &&
+           len - body_of(&got) == s->body_len && memcmp(bytes + body_of(&got), s->body, s->body_len) == 0;
+}
+
+/* Compares a build into so many bytes at an address, which hold others, and what the library says of the packet. */
+static void hold_build(const struct status *s, size_t address, size_t len)
+{
+    static uint8_t want[ROOMIEST], were[2][40], lent[sizeof body];
+    uint8_t *at = room + GUARD + address;
+    size_t length = SIZE_MAX, wanted_length;
+    int kept = 1;
+    for (size_t i = 0; i < GUARD + len + GUARD; i++)
+        at[(ptrdiff_t)i - GUARD] = (uint8_t)(0xA5 + i * (address + 1));
+    memcpy(want, at, len);
+    memcpy(were, ends, sizeof ends);
+    memcpy(lent, body, sizeof body);
+    comparing = 1;
+    unsigned wanted = build_udp(s, want, len, &wanted_length);
+    comparing = 0;
+    unsigned got = call_build(s, at, len, &length);
+    for (size_t i = 0; i < GUARD; i++)
+        kept &= at[(ptrdiff_t)i - GUARD] == (uint8_t)(0xA5 + i * (address + 1)) &&
+                at[len + i] == (uint8_t)(0xA5 + (GUARD + len + i) * (address + 1));
+    kept &= memcmp(were, ends, sizeof ends) == 0 && memcmp(lent, body, sizeof body) == 0;
+    checks++;
+    if ((got != wanted || length != wanted_length || memcmp(at, want, len) != 0 || !kept) && failed++ < 20)
+        printf("corners: failed: build, IPv%u meant, addresses of %zu and %zu bytes, a body of %zu, a lifetime of %u, a "
+               "buffer of %zu: wanted %u and %zu, got %u and %zu%s%s\n",
+               s->built->family, s->source_len, s->destination_len, s->body_len, s->lifetime, len, wanted,
+               wanted_length, got, length, memcmp(at, want, len) ? "; other bytes" : "",
+               kept ? "" : "; a byte beside the buffer changed");
+    if (got != 0 || wanted != 0)
+        return;
+    expect(reads_back(s, at, wanted_length), "a packet that was built reads back");
+    expect(hifrostum_judge(at, len) == 0, "a packet that was built is good");
+    expect(hifrostum_mend(at, len) == 0 && memcmp(at, want, len) == 0, "mending leaves it as it is");
+}
+
+/* Addresses of each two sizes, with bodies, lifetimes and buffers on both sides of what is taken. */
+static void pairings(void)
+{
+    static const size_t sizes[] = {0, 1, 3, 4, 5, 8, 15, 16, 17, 20, 32}, bodies[] = {0, 1, 2, 1399, 1400, 1401, 2047};
+    static const unsigned lives[] = {0, 1, 2, 255};
+    for (size_t i = 0; i < OWNS * 11 * 11 * 7 * 4; i++) {
+        struct status s = status_of(owns[i % 2], bodies[i / 2 % 7]);
+        s.lifetime = lives[i / 14 % 4];
+        s.source_len = sizes[i / 56 % 11];
+        s.destination_len = sizes[i / 56 / 11];
+        /* a pointer may be null where its length is 0 */
+        s.source = s.source_len ? s.source : NULL;
+        s.destination = s.destination_len ? s.destination : NULL;
+        s.body = s.body_len ? s.body : NULL;
+        size_t fits = size_of(&s) < ROOMIEST ? size_of(&s) : ROOMIEST;
+        const size_t rooms[] = {0, 1, 27, 28, 47, 48, fits - 1, fits, fits + (fits < ROOMIEST), ROOMIEST};
+        for (size_t j = 0; j < sizeof rooms / sizeof *rooms; j++)
+            hold_build(&s, i % 32, rooms[j]);
+    }
+    group("packets built, and refused, by sizes");
+}
+
+/* Bodies of every length up to 300, and around 1,400, in a buffer at every address modulo 32. */
+static void bodies(void)
+{
+    for (size_t i = 0; i < OWNS * 313 * 32; i++) {
+        size_t len = i / 64 <= 300 ? i / 64 : 1090 + i / 64;
+        struct status s = status_of(owns[i % 2], len);
+        hold_build(&s, i / 2 % 32, size_of(&s) + (i % 3 ? any(40) : 0));
+    }
+    group("bodies of every length");
+}
+
+/* Every port, and every lifetime. */
+static void numbers(void)
+{
+    for (size_t i = 0; i < OWNS * 65536; i++) {
+        struct status s = status_of(owns[i % 2], 3);
+        s.source_port = (unsigned)(i / 2);
+        s.destination_port = 65535 - s.source_port;
+        s.lifetime = s.source_port % 256;
+        hold_build(&s, 1, size_of(&s) + 2);
+    }
+    group("ports and lifetimes");
+}
+
+/* Addresses, ports and bodies of zeros alone, of ones alone, and of both. */
+static void plain(void)
+{
+    for (size_t i = 0; i < OWNS * 16 * 1401; i++) {
+        struct status s = status_of(owns[i % 2], i / 32);
+        memset(ends[0], i / 2 % 2 ? 0xFF : 0, sizeof ends[0]);
+        memset(ends[1], i / 4 % 2 ? 0xFF : 0, sizeof ends[1]);
+        memset(body, i / 8 % 2 ? 0xFF : 0, s.body_len);
+        s.source_port = s.destination_port = i / 16 % 2 ? 0xFFFF : 0;
+        hold_build(&s, 2, size_of(&s) + i % 5);
+    }
+    group("packets of zeros and of ones");
+}
+
+/* UDP's field at every corner, by a word of the body at an even place, of an address, or the source port. */
+static void built_fields(void)
+{
+    static uint8_t packet[ROOMIEST];
+    for (size_t i = 0; i < OWNS * 205 * CORNERS * 3; i++) {
+        size_t len = i / OWNS / CORNERS / 3, way = i / OWNS % 3, length;
+        unsigned aim = corners[i / OWNS / 3 % CORNERS];
+        struct status s = status_of(owns[i % 2], len <= 200 ? len : 1196 + len);
+        uint8_t *word_at = way == 0 && s.body_len > 1 ? body + 2 * any((unsigned)s.body_len / 2) : ends[0] + 2;
+        build_udp(&s, packet, ROOMIEST, &length);
+        /* the total grows by the field that is there less the one that is aimed at */
+        unsigned field = word(packet + size_of(&s) - s.body_len - 2), more = (field + 65535 - aim) % 65535;
+        if (way == 2)
+            s.source_port = (s.source_port + more) % 65535;
+        else
+            put(word_at, (word(word_at) + more) % 65535);
+        hold_build(&s, 3, size_of(&s) + any(3));
+    }
+    group("packets with every corner field");
+}
+
+/* The IPv4 header's field at every corner, by each word that a caller chooses. */
+static void built_headers(void)
+{
+    static uint8_t packet[ROOMIEST];
+    for (size_t i = 0; i < CORNERS * 4 * 100; i++) {
+        size_t length;
+        unsigned aim = corners[i % CORNERS];
+        struct status s = status_of(owns[0], any(1401));
+        uint8_t *word_at = ends[i / CORNERS % 2] + i / CORNERS / 2 % 2 * 2;
+        build_udp(&s, packet, ROOMIEST, &length);
+        put(word_at, (word(word_at) + word(packet + 10) + 65535 - aim) % 65535);
+        hold_build(&s, 4, size_of(&s));
+    }
+    group("packets with every corner field in the header");
+}
+
+/* Addresses and body may be the same bytes, or lie over one another. */
+static void shared(void)
+{
+    for (size_t i = 0; i < OWNS * 600; i++) {
+        struct status s = status_of(owns[i % 2], i < 600 ? any(40) : any(1401));
+        if (i % 3 != 1)
+            s.destination = s.source + i % 5;
+        if (i % 3 != 0)
+            s.source = body + any(8);
+        if (i % 3 == 2)
+            s.destination = body + any(8);
+        if (s.body_len <= 24 && i % 4 == 0)
+            s.body = s.source;
+        hold_build(&s, 5, size_of(&s) + any(9));
+    }
+    group("packets of bytes that overlap");
+}
+
 /* Fails unless each branch was met with each kind that has it. */
 static unsigned long branches(void)
 {
@@ -1198,6 +1396,8 @@ static unsigned long branches(void)
                            : b == JOINED_ZERO                                    ? four && !udp
                            : b == JOINED_BLANK                                   ? icmp
                            : b == JOINED_SECOND || b == JOINED_THIRD             ? four && !icmp && !udp
+                           : b == BUILT_HEADER                                   ? &kinds[k] == owns[0]
+                           : b >= BUILD_SOURCE                    ? &kinds[k] == owns[0] || &kinds[k] == owns[1]
                            : b >= ENDS_INSIDE                                    ? four && kinds[k].tail
                            : b >= LIST_EMPTY                                     ? four
                            : b >= WALK_EIGHT                                     ? kinds[k].between != 0
@@ -1236,6 +1436,13 @@ int main(void)
     overlaps();
     joined_multiples();
     joined_shapes();
+    pairings();
+    bodies();
+    numbers();
+    plain();
+    built_fields();
+    built_headers();
+    shared();
     unsigned long rare = branches();
     printf("corners: %lu checks, %lu failed (%lu rare branches, each met)\n", checks, failed, rare);
     return failed != 0;

@@ -1,8 +1,8 @@
 /* A model of the rules for packets whose IP header and declared length are right: over IPv6 a walk past the headers
  * between, and the rules paper's formulas over the covered block, which is laid out whole, pseudo-header first, and
  * summed byte by byte. It finds each message from the packet's bytes alone, and never asks the library. Fragments,
- * whose headers may be wrong in any way, are put together into one packet, which is judged. It counts how often it
- * takes the rare branches. */
+ * whose headers may be wrong in any way, are put together into one packet, which is judged. A packet that is to be built
+ * is laid out field by field, as RFC 791, 8200 and 768 have it. It counts how often it takes the rare branches. */
 #ifndef MODEL_H
 #define MODEL_H
 
@@ -137,6 +137,30 @@ enum branch {
     ENDS_LENGTH,    /* it doesn't pass, and would with the message's length in its pseudo-header */
     ENDS_SUMMED,    /* or with the tail summed */
     ENDS_BOTH,      /* or with both */
+    BUILD_SOURCE,   /* a packet isn't built, since its source has the size of no family, and nothing else is wrong */
+    BUILD_TARGET,   /* or its destination */
+    BUILD_NEITHER,  /* or both, in one size */
+    BUILD_FAMILIES, /* or since they are of two families */
+    BUILD_BODY,     /* or since its body has 1,401 bytes */
+    BUILD_SPENT,    /* or since its lifetime is 0 */
+    BUILD_ROOM,     /* or since the buffer lacks one byte */
+    BUILD_NO_ROOM,  /* or has none */
+    PLACE_SPENT,    /* it doesn't fit, and its lifetime is 0 too */
+    PLACE_ROOM,     /* or there is no room for it */
+    PLACE_BOTH,     /* or both */
+    SPENT_ROOM,     /* its lifetime is 0, and there is no room for it */
+    BUILT_EMPTY,    /* a packet is built, and its body is empty */
+    BUILT_ONE,      /* or one byte */
+    BUILT_ODD,      /* or of odd length, and another byte than 00 stands behind it */
+    BUILT_MOST,     /* or of 1,400 bytes */
+    BUILT_BARELY,   /* and its lifetime is 1 */
+    BUILT_EXACT,    /* and the buffer has no byte more */
+    BUILT_BEFORE,   /* and other bytes are behind it */
+    BUILT_FULL,     /* and UDP's field comes to 0000, so that FFFF is written */
+    BUILT_LEAST,    /* or to 0001 */
+    BUILT_LAST,     /* or to FFFE, since what it covers comes to 1 modulo 65535 */
+    BUILT_CARRY,    /* and the sum of its total's words is past 16 bits again */
+    BUILT_HEADER,   /* and the header's field is 0000 */
     BRANCHES
 };
 static unsigned long met[KINDS][BRANCHES];
@@ -849,6 +873,137 @@ static unsigned judge_fragments(const struct kind *built, const uint8_t *buffer,
     meet_list(built, list, count);
     meet_joined(built, &whole, count, verdict);
     return verdict;
+}
+
+/* Building */
+
+enum { LONGEST_BODY = 1400 };
+
+/* A packet that is to be built, as one kind: that of the family which is meant, whatever size its addresses have. */
+struct status {
+    const struct kind *built;
+    const uint8_t *source, *destination, *body;
+    size_t source_len, destination_len, body_len;
+    unsigned source_port, destination_port, lifetime;
+};
+
+/* Counts a branch of a packet that is to be built. */
+static void meet_status(const struct status *s, enum branch branch, int taken)
+{
+    met[s->built - kinds][branch] += comparing && taken;
+}
+
+/* Bytes that go to a place. Answers the place behind them. */
+static size_t lay_bytes(uint8_t *out, size_t at, const uint8_t *bytes, size_t len)
+{
+    for (size_t i = 0; i < len; i++)
+        out[at + i] = bytes[i];
+    return at + len;
+}
+
+/* A number of 8 or 16 bits that goes to a place. Answers the place behind it. */
+static size_t lay_8(uint8_t *out, size_t at, size_t number)
+{
+    out[at] = (uint8_t)number;
+    return at + 1;
+}
+
+static size_t lay_16(uint8_t *out, size_t at, size_t number)
+{
+    put(out + at, number);
+    return at + 2;
+}
+
+/* RFC 791's header, field by field, for so many bytes of datagram: version and length, type of service, total length;
+ * identification, flags and fragment offset; time to live, protocol, checksum; source and destination. */
+static size_t lay_four(const struct status *s, uint8_t *out, size_t datagram)
+{
+    size_t at = lay_16(out, lay_8(out, lay_8(out, 0, 4 * 16 + 5), 0), 20 + datagram);
+    at = lay_16(out, lay_16(out, at, 0), 0);
+    at = lay_16(out, lay_8(out, lay_8(out, at, s->lifetime), UDP), 0);
+    at = lay_bytes(out, lay_bytes(out, at, s->source, 4), s->destination, 4);
+    unsigned field = 65535 - fold(total(out, at));
+    meet_status(s, BUILT_HEADER, field == 0);
+    put(out + 10, field);
+    return at;
+}
+
+/* RFC 8200's: version, traffic class and flow label; payload length, next header, hop limit; source and destination. */
+static size_t lay_six(const struct status *s, uint8_t *out, size_t datagram)
+{
+    size_t at = lay_16(out, lay_16(out, 0, 6 * 4096), 0);
+    at = lay_8(out, lay_8(out, lay_16(out, at, datagram), UDP), s->lifetime);
+    return lay_bytes(out, lay_bytes(out, at, s->source, 16), s->destination, 16);
+}
+
+/* RFC 768's datagram: source port, destination port, length, checksum, body. The pseudo-header's total is that of the
+ * addresses, the protocol and the length. */
+static size_t lay_datagram(const struct status *s, uint8_t *out, size_t datagram)
+{
+    size_t at = lay_16(out, lay_16(out, lay_16(out, 0, s->source_port), s->destination_port), datagram);
+    at = lay_bytes(out, lay_16(out, at, 0), s->body, s->body_len);
+    unsigned long sum = total(s->source, s->source_len) + total(s->destination, s->destination_len) + UDP + datagram +
+                        total(out, datagram);
+    unsigned field = 65535 - fold(sum);
+    meet_status(s, BUILT_FULL, field == 0);
+    meet_status(s, BUILT_LEAST, field == 1);
+    meet_status(s, BUILT_LAST, field == 0xFFFE);
+    meet_status(s, BUILT_CARRY, (sum >> 16) + (sum & 0xFFFF) > 0xFFFF);
+    put(out + 6, field == 0 ? 0xFFFF : field);
+    return at;
+}
+
+/* Whether an address has the size of neither family. */
+static int no_size(size_t len)
+{
+    return len != 4 && len != 16;
+}
+
+/* The first refusal of a packet that is to be built in so many bytes. */
+static unsigned refused_status(const struct status *s, size_t room)
+{
+    size_t header = s->source_len == 4 ? 20 : 40;
+    int source = no_size(s->source_len), target = no_size(s->destination_len);
+    int families = !source && !target && s->source_len != s->destination_len, body = s->body_len > LONGEST_BODY;
+    int place = source || target || families || body, spent = s->lifetime == 0;
+    int small = room < header + 8 || room - header - 8 < s->body_len, one = !spent && !small;
+    meet_status(s, BUILD_SOURCE, source && !target && !body && one);
+    meet_status(s, BUILD_TARGET, target && !source && !body && one);
+    meet_status(s, BUILD_NEITHER, source && s->source_len == s->destination_len && !body && one);
+    meet_status(s, BUILD_FAMILIES, families && !body && one);
+    meet_status(s, BUILD_BODY, s->body_len == LONGEST_BODY + 1 && !source && !target && !families && one);
+    meet_status(s, PLACE_SPENT, place && spent && !small);
+    meet_status(s, PLACE_ROOM, place && !spent && small);
+    meet_status(s, PLACE_BOTH, place && spent && small);
+    if (place)
+        return 10;
+    meet_status(s, BUILD_SPENT, spent && !small);
+    meet_status(s, SPENT_ROOM, spent && small);
+    if (spent)
+        return 11;
+    meet_status(s, BUILD_ROOM, room + 1 == header + 8 + s->body_len);
+    meet_status(s, BUILD_NO_ROOM, room == 0);
+    return small ? 16 : 0;
+}
+
+/* Builds a packet in a buffer. */
+static unsigned build_udp(const struct status *s, uint8_t *buffer, size_t room, size_t *length)
+{
+    unsigned refusal = refused_status(s, room);
+    *length = 0;
+    if (refusal)
+        return refusal;
+    size_t datagram = 8 + s->body_len;
+    size_t start = s->source_len == 4 ? lay_four(s, buffer, datagram) : lay_six(s, buffer, datagram);
+    *length = start + lay_datagram(s, buffer + start, datagram);
+    meet_status(s, BUILT_EMPTY, s->body_len == 0);
+    meet_status(s, BUILT_ONE, s->body_len == 1);
+    meet_status(s, BUILT_ODD, s->body_len % 2 == 1 && room > *length && buffer[*length] != 0);
+    meet_status(s, BUILT_MOST, s->body_len == LONGEST_BODY);
+    meet_status(s, BUILT_BARELY, s->lifetime == 1);
+    meet_status(s, BUILT_EXACT, room == *length);
+    meet_status(s, BUILT_BEFORE, room > *length);
+    return 0;
 }
 
 #endif

@@ -11,17 +11,16 @@ use Rattle.wire.specs.Bytes.{put}
 use Rattle.build.specs.Layout.{Asked, packetOf, sizeOf}
 use Rattle.build.specs.declared.Built.{Built}
 
--- an address of 4 or of 16 bytes
-unfoldable pub sized : List ℕ → Bool
-sized address = eqb (length address) 4 || eqb (length address) 16
+-- an address has the size of neither family, the two differ in size, or the body is over 1,400 bytes
+abbrev pub neither : ℕ → Bool
+neither size = not (eqb size 4 || eqb size 16)
 
--- place: an address of another size, two sizes, a body of over 1,400 bytes; spent; room
+unfoldable pub unfit : (source destination body : ℕ) → Bool
+unfit source destination body = neither source || (neither destination || (not (eqb source destination) || ltb 1400 body))
+
 unfoldable pub buildRules : Asked → (room : ℕ) → List Rule
 buildRules a room =
-    (not (sized (a .source)) ⇒ Place)
-    ∷ (not (sized (a .destination)) ⇒ Place)
-    ∷ (not (eqb (length (a .source)) (length (a .destination))) ⇒ Place)
-    ∷ (ltb 1400 (length (a .body)) ⇒ Place)
+    (unfit (length (a .source)) (length (a .destination)) (length (a .body)) ⇒ Place)
     ∷ (eqb (a .lifetime) 0 ⇒ Spent)
     ∷ (ltb room (sizeOf a) ⇒ Room)
     ∷ []

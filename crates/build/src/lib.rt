@@ -91,7 +91,7 @@ fn datagram(family: Family, start: usize, body: usize) -> Message {
         protocol: wire::UDP,
         pseudo: true,
         start,
-        end: start + UDP_HEADER + body,
+        end: start + (UDP_HEADER + body),
         field: start + UDP_FIELD,
         body: start + UDP_HEADER,
     }

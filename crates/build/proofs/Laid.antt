@@ -1,0 +1,170 @@
+-- A packet laid out, read by the places that judge, mender and edits go by.
+use mathlib.Core.Path.{_≡_, refl, sym, ap, ap₂, _∙_}
+use Prim.Native.Nat.{ℕ, _+_, _-_, _≤_}
+use native.Mathlib.Omega.{arith}
+use mathlib.Core.List.{List, [], _∷_, _++_}
+use mathlib.Core.Bool.{true, false, _||_}
+use lib.ListN.{length, length-append, drop}
+use lib.Seq.{take-at, drop-at, take-all}
+use lib.Dec.{ltb, eqb}
+use borrow.Author.Tests.{ne-eqb, le-ltb}
+use Rattle.verdicts.specs.Rules.{clear}
+use Rattle.sums.specs.Total.{total}
+use Rattle.cover.specs.Sums.{messageTotal}
+use Rattle.wire.specs.Bytes.{byteAt, wordAt}
+use Rattle.wire.specs.Outer.{familyOf, headerEnd, declaredEnd, nextOf, fragmentOf, lifetimeAt, outerRules}
+use Rattle.wire.specs.Walk.{reached, walkOf, walkBy, metOf, between}
+use Rattle.wire.specs.Table.{rowOf, uncovered}
+use Rattle.wire.specs.Messages.{planIn, saidIn, shapeRules, coveredIn}
+use Rattle.wire.specs.Inner.{startOf, protocolOf, carriedOf, endOf, fieldAt, bodyOf, pseudo, messageRules, addressesOf, messageBytes, silentOf, Holds}
+use Rattle.wire.specs.declared.Family.{Family}
+use Rattle.wire.specs.declared.Family.the-variants.{Four, Six}
+use Rattle.wire.specs.declared.Plan.{Plan}
+use Rattle.build.specs.Layout.{Asked, datagramSize, datagramOf, headerSize, laid}
+use Rattle.build.specs.Places.{addressSize, Fits, placesIn}
+
+pub record Read (f : Family) (a : Asked) (m : ℕ) (p : List ℕ) : Type 0 where
+  pub long : length p ≡ headerSize f + datagramSize a
+  pub family : familyOf p ≡ f
+  pub header : headerEnd p ≡ headerSize f
+  pub declared : declaredEnd p ≡ headerSize f + datagramSize a
+  pub outer : clear (outerRules p)
+  pub walk : walkOf p ≡ reached 17 (headerSize f)
+  pub addresses : addressesOf p ≡ a .source ++ a .destination
+  pub lifetime : byteAt p (lifetimeAt p) ≡ a .lifetime
+  pub behind : drop (headerSize f) p ≡ datagramOf a m
+
+pub addresses-long : {f : Family} {a : Asked} → Fits f a → length (a .source ++ a .destination) ≡ addressSize f + addressSize f
+addresses-long {f} {a} s = let x = s .source in let y = s .destination in omega (arith, length-append (a .source) (a .destination))
+
+module _ (a : Asked) (h m : ℕ) where
+  module _ (s : Fits Four a) where
+    abbrev p4 : List ℕ
+    p4 = laid Four a h m
+
+    long4 : length p4 ≡ 20 + datagramSize a
+    unfolding laid
+    long4 = omega (arith, length-append (a .source ++ a .destination) (datagramOf a m), addresses-long s)
+
+    declared4 : declaredEnd p4 ≡ 20 + datagramSize a
+    unfolding declaredEnd laid
+    declared4 = omega arith
+
+    read4 : Read Four a m p4
+    unfolding laid familyOf headerEnd walkOf nextOf fragmentOf outerRules
+    read4 =
+        record {
+          long = long4;
+          family = refl;
+          header = refl;
+          declared = declared4;
+          outer = (
+            ne-eqb (length p4) 0 (λ e. omega (arith, long4)),
+            (refl, (le-ltb (length p4) 20 (omega (arith, long4)), (refl, (le-ltb (wordAt p4 2) 20 (omega arith), (le-ltb (length p4) (declaredEnd p4) (omega (arith, long4, declared4)), tt))))),
+          );
+          walk = refl;
+          addresses = take-at (a .source ++ a .destination) (datagramOf a m) 8 (addresses-long s);
+          lifetime = refl;
+          behind = drop-at (a .source ++ a .destination) (datagramOf a m) 8 (addresses-long s);
+        }
+
+  module _ (s : Fits Six a) where
+    abbrev p6 : List ℕ
+    p6 = laid Six a h m
+
+    long6 : length p6 ≡ 40 + datagramSize a
+    unfolding laid
+    long6 = omega (arith, length-append (a .source ++ a .destination) (datagramOf a m), addresses-long s)
+
+    declared6 : declaredEnd p6 ≡ 40 + datagramSize a
+    unfolding declaredEnd laid
+    declared6 = omega arith
+
+    read6 : Read Six a m p6
+    unfolding laid familyOf headerEnd walkOf walkBy metOf between nextOf outerRules
+    read6 =
+        record {
+          long = long6;
+          family = refl;
+          header = refl;
+          declared = declared6;
+          outer = (
+            ne-eqb (length p6) 0 (λ e. omega (arith, long6)),
+            (refl, (le-ltb (length p6) 40 (omega (arith, long6)), (refl, (refl, (le-ltb (length p6) (declaredEnd p6) (omega (arith, long6, declared6)), tt))))),
+          );
+          walk = refl;
+          addresses = take-at (a .source ++ a .destination) (datagramOf a m) 32 (addresses-long s);
+          lifetime = refl;
+          behind = drop-at (a .source ++ a .destination) (datagramOf a m) 32 (addresses-long s);
+        }
+
+pub read : (family : Family) (a : Asked) (h m : ℕ) → Fits family a → Read family a m (laid family a h m)
+read Four a h m s = read4 a h m s
+read Six a h m s = read6 a h m s
+
+-- ---- and from that all its places
+plan-is : (f : Family) → planIn f 17 ≡ record { fixed = 8; field = 6; pseudo = true }
+unfolding rowOf
+plan-is Four = refl
+plan-is Six = refl
+
+covered-is : (f : Family) → uncovered (rowOf f 17) ≡ false
+unfolding rowOf
+covered-is Four = refl
+covered-is Six = refl
+
+module _ {f : Family} {a : Asked} {m : ℕ} {p : List ℕ} (r : Read f a m p) where
+  pub start-is : startOf p ≡ headerSize f
+  unfolding startOf
+  start-is = rw (r .walk)
+
+  pub protocol-is : protocolOf p ≡ 17
+  unfolding protocolOf
+  protocol-is = rw (r .walk)
+
+  pub carried-is : carriedOf p ≡ datagramOf a m
+  unfolding carriedOf
+  carried-is = rw (start-is, r .declared, r .behind) (take-all (headerSize f + datagramSize a - headerSize f) (datagramOf a m) (omega arith))
+
+  pub end-is : endOf p ≡ headerSize f + datagramSize a
+  unfolding endOf saidIn
+  end-is = rw (start-is, protocol-is, carried-is) (omega arith)
+
+  pub field-is : fieldAt p ≡ headerSize f + 6
+  unfolding fieldAt
+  field-is = rw (start-is, r .family, protocol-is, plan-is f)
+
+  pub body-is : bodyOf p ≡ headerSize f + 8
+  unfolding bodyOf
+  body-is = rw (start-is, r .family, protocol-is, plan-is f)
+
+  pub pseudo-is : pseudo p ≡ true
+  unfolding pseudo
+  pseudo-is = ap₂ (λ g n. planIn g n .pseudo) (r .family) protocol-is ∙ ap (λ (q : Plan). q .pseudo) (plan-is f)
+
+  said-right : (ltb (wordAt (datagramOf a m) 4) 8 || ltb (length (datagramOf a m)) (wordAt (datagramOf a m) 4)) ≡ false
+  said-right = simp (le-ltb (wordAt (datagramOf a m) 4) 8 (omega arith), le-ltb (length (datagramOf a m)) (wordAt (datagramOf a m) 4) (omega arith))
+
+  pub inner-clear : clear (messageRules p)
+  unfolding messageRules shapeRules saidIn
+  inner-clear =
+      rw (r .family, protocol-is, carried-is, plan-is f)
+      (covered-is f, (le-ltb (length (datagramOf a m)) 8 (omega arith), (said-right, tt)))
+
+  pub holds : Holds p (placesIn f (length (a .body)))
+  holds = record {
+    is = rw (r .family, protocol-is, start-is, end-is, field-is, body-is, pseudo-is);
+    outer = r .outer;
+    inner = inner-clear;
+  }
+
+  pub bytes-is : messageBytes p ≡ datagramOf a m
+  bytes-is = rw (start-is, end-is, r .behind) (take-all (headerSize f + datagramSize a - headerSize f) (datagramOf a m) (omega arith))
+
+  pub total-is : messageTotal p ≡ total (coveredIn f 17 (a .source ++ a .destination) (datagramOf a m))
+  unfolding messageTotal
+  total-is = rw (r .family, protocol-is, r .addresses, bytes-is)
+
+  pub silent-is : silentOf p ≡ eqb m 0
+  unfolding silentOf
+  silent-is = rw (r .family, protocol-is, bytes-is, plan-is f) (ap (λ w. eqb w 0) (let e : wordAt (datagramOf a m) 6 ≡ m = omega arith in e))

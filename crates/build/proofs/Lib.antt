@@ -1,0 +1,3 @@
+-- Laws of a packet that is laid out, and what is promised of one that is built.
+pub mod Laid
+pub mod Summed

@@ -1,0 +1,43 @@
+-- What the functions on the way to a packet ask and answer.
+use Prim.Native.Nat.{ℕ, _+_, _≤_}
+use mathlib.Core.Path.{_≡_}
+use mathlib.Core.List.{List}
+use mathlib.Core.Bool.{true}
+use lib.ListN.{length}
+use Rattle.wire.specs.declared.Family.{Family}
+use Rattle.wire.specs.declared.Family.the-variants.{Four, Six}
+use Rattle.wire.specs.declared.Message.{Message}
+use Rattle.build.specs.Layout.{Asked, headerSize}
+
+abbrev pub addressSize : Family → ℕ
+addressSize Four = 4
+addressSize Six = 16
+
+-- both addresses are of that size, and the body is short enough for 16-bit lengths
+pub record Fits (family : Family) (a : Asked) : Type 0 where
+  pub source : length (a .source) ≡ addressSize family
+  pub destination : length (a .destination) ≡ addressSize family
+  pub body : length (a .body) ≤ 1400
+
+-- where a datagram with so long a body stands
+abbrev pub placesIn : Family → ℕ → Message
+placesIn family body = record {
+  family = family;
+  protocol = 17;
+  pseudo = true;
+  start = headerSize family;
+  end = headerSize family + (8 + body);
+  field = headerSize family + 6;
+  body = headerSize family + 8;
+}
+
+-- in the order of the function's parameters
+abbrev pub asked : (source destination : List ℕ) (sourcePort destinationPort lifetime : ℕ) (body : List ℕ) → Asked
+asked source destination sourcePort destinationPort lifetime body = record {
+  source = source;
+  destination = destination;
+  sourcePort = sourcePort;
+  destinationPort = destinationPort;
+  lifetime = lifetime;
+  body = body;
+}
