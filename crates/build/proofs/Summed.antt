@@ -35,7 +35,7 @@ module _ (a : Asked) (h m : ℕ) where
   unfolding put laid
   header-over v = refl
 
-  header-long : (f : Family) → Fits f a → length (headerOf f a h) ≡ headerSize f
+  pub header-long : (f : Family) → Fits f a → length (headerOf f a h) ≡ headerSize f
   header-long Four s = omega (arith, addresses-long s)
   header-long Six s = omega (arith, addresses-long s)
 

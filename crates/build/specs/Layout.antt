@@ -48,10 +48,14 @@ headerSize Six = 40
 abbrev pub datagramSize : Asked → ℕ
 datagramSize a = 8 + length (a .body)
 
+-- the header of either family
+abbrev pub headerIn : Family → (size lifetime : ℕ) (source destination : List ℕ) (checksum : ℕ) → List ℕ
+headerIn Four size lifetime source destination checksum = header4 size lifetime source destination checksum
+headerIn Six size lifetime source destination checksum = header6 size lifetime source destination
+
 -- the datagram behind its header, with these words in the two sum fields, of which IPv6 has the second alone
 abbrev pub headerOf : Family → Asked → (checksum : ℕ) → List ℕ
-headerOf Four a checksum = header4 (datagramSize a) (a .lifetime) (a .source) (a .destination) checksum
-headerOf Six a checksum = header6 (datagramSize a) (a .lifetime) (a .source) (a .destination)
+headerOf family a checksum = headerIn family (datagramSize a) (a .lifetime) (a .source) (a .destination) checksum
 
 abbrev pub datagramOf : Asked → (checksum : ℕ) → List ℕ
 datagramOf a checksum = datagram (a .sourcePort) (a .destinationPort) (a .body) checksum

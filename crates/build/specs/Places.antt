@@ -1,5 +1,5 @@
 -- What the functions on the way to a packet ask and answer.
-use Prim.Native.Nat.{ℕ, _+_, _≤_}
+use Prim.Native.Nat.{ℕ, _+_, _-_, _≤_}
 use mathlib.Core.Path.{_≡_}
 use mathlib.Core.List.{List}
 use mathlib.Core.Bool.{true}
@@ -7,7 +7,8 @@ use lib.ListN.{length}
 use Rattle.wire.specs.declared.Family.{Family}
 use Rattle.wire.specs.declared.Family.the-variants.{Four, Six}
 use Rattle.wire.specs.declared.Message.{Message}
-use Rattle.build.specs.Layout.{Asked, headerSize}
+use Rattle.wire.specs.Bytes.{put}
+use Rattle.build.specs.Layout.{Asked, headerSize, headerIn}
 
 abbrev pub addressSize : Family → ℕ
 addressSize Four = 4
@@ -30,6 +31,17 @@ placesIn family body = record {
   field = headerSize family + 6;
   body = headerSize family + 8;
 }
+
+-- what laying out a header asks: addresses of the family's size, and a packet as long as the whole is to be
+pub record Lays (family : Family) (s d packet : List ℕ) : Type 0 where
+  pub source : length s ≡ addressSize family
+  pub destination : length d ≡ addressSize family
+  pub room : headerSize family ≤ length packet
+  pub short : length packet ≤ 65535
+
+-- and leaves: the header in its first bytes, with a field of 0000
+abbrev pub headerLeft : Family → (packet source destination : List ℕ) (lifetime : ℕ) → List ℕ
+headerLeft family packet source destination lifetime = put packet 0 (headerIn family (length packet - headerSize family) lifetime source destination 0)
 
 -- in the order of the function's parameters
 abbrev pub asked : (source destination : List ℕ) (sourcePort destinationPort lifetime : ℕ) (body : List ℕ) → Asked

@@ -1,14 +1,23 @@
 // A packet of the hut's own: UDP over IPv4 or IPv6, laid into a lent buffer with fresh sums.
 //
-// The bytes come in the order in which the RFCs have them, sums last; where they stand is said by the message's places, as for
-// a packet that came in. A refused call changes no byte, and what lies behind the packet in the buffer stays.
+// The bytes are written in the order in which the RFCs have them, the sums last and by the mender's own functions. A refused
+// call changes no byte, and what lies behind the packet in the buffer stays.
 use verdicts::Verdict;
 use wire::Family;
 use wire::Message;
+ghost use mathlib.Core.Path.{_≡_};
+ghost use mathlib.Core.Bool.{true};
+ghost use Prim.Native.Nat.{_+_, _/_, _%_, _≤_};
+ghost use lib.ListN.{length};
+ghost use Rattle.wire.specs.Bytes.{put};
+ghost use Rattle.build.specs.Layout.{datagram as Layout·datagram, familyFor, packetIn};
+ghost use Rattle.build.specs.Build.{neither as Build·neither, unfit as Build·unfit, refusal, builtOf};
+ghost use Rattle.build.specs.Places.{Fits, placesIn, Lays, headerLeft, asked};
 
 // How long a body may be.
 const MOST: usize = 1400;
 
+// UDP's header, and the field in it.
 const UDP_HEADER: usize = 8;
 
 const UDP_FIELD: usize = 6;
@@ -28,14 +37,16 @@ pub fn build_udp(
     lifetime: u8,
     body: &[u8],
     buffer: &mut [u8],
-) -> Built {
+) -> Built
+    ensures { λ r. ⌜ (r, now (buffer .exit)) ≡ builtOf (asked (now (source .entry)) (now (destination .entry)) «source_port» «destination_port» lifetime (now (body .entry))) (now (buffer .entry)) ⌝ }
+{
     if unfit(source.len(), destination.len(), body.len()) {
         return refused(Verdict::Place);
     }
     if lifetime == 0 {
         return refused(Verdict::Spent);
     }
-    let m = places(source.len(), body.len());
+    let m = places(source, body.len());
     let size = m.end;
     if buffer.len() < size {
         return refused(Verdict::Room);
@@ -56,7 +67,9 @@ pub fn build_udp(
     }
 }
 
-fn refused(v: Verdict) -> Built {
+fn refused(v: Verdict) -> Built
+    ensures { λ r. ⌜ r ≡ refusal v ⌝ }
+{
     Built {
         verdict: v,
         length: 0,
@@ -64,40 +77,55 @@ fn refused(v: Verdict) -> Built {
 }
 
 // Whether an address has the size of neither family, the two differ in size, or the body is too long.
-fn unfit(source: usize, destination: usize, body: usize) -> bool {
-    if source != wire::ADDRESS_4 {
-        if source != wire::ADDRESS_6 {
-            return true;
-        }
+fn unfit(source: usize, destination: usize, body: usize) -> bool
+    ensures { λ r. ⌜ r ≡ Build·unfit source destination body ⌝ }
+{
+    if neither(source) {
+        return true;
     }
-    if destination != source {
+    if source != destination {
         return true;
     }
     MOST < body
 }
 
-// Where things will stand, from the length of an address and of the body.
-fn places(address: usize, body: usize) -> Message {
-    if address == wire::ADDRESS_4 {
-        return datagram(Family::Four, wire::ADDRESSES_4_END, body);
+fn neither(size: usize) -> bool
+    ensures { λ r. ⌜ r ≡ Build·neither size ⌝ }
+{
+    if size == wire::ADDRESS_4 {
+        return false;
     }
-    datagram(Family::Six, wire::ADDRESSES_6_END, body)
+    size != wire::ADDRESS_6
 }
 
-// A datagram with so long a body that begins behind a header.
-fn datagram(family: Family, start: usize, body: usize) -> Message {
+// Where things will stand in a packet from that address, with so long a body.
+fn places(source: &[u8], body: usize) -> Message
+    requires { ⌜ body ≤ 1400 ⌝ }
+    ensures { λ r. ⌜ r ≡ placesIn (familyFor (now (source .entry))) body ⌝ }
+{
+    if source.len() == wire::ADDRESS_4 {
+        return behind(Family::Four, wire::ADDRESSES_4_END, body);
+    }
+    behind(Family::Six, wire::ADDRESSES_6_END, body)
+}
+
+// A datagram behind a header of so many bytes.
+fn behind(family: Family, header: usize, body: usize) -> Message
+    requires { ⌜ (header ≤ 40) × (body ≤ 1400) ⌝ }
+    ensures { λ r. ⌜ r ≡ record { family = family; protocol = 17; pseudo = true; start = header; end = header + (8 + body); field = header + 6; body = header + 8 } ⌝ }
+{
     Message {
         family,
         protocol: wire::UDP,
         pseudo: true,
-        start,
-        end: start + (UDP_HEADER + body),
-        field: start + UDP_FIELD,
-        body: start + UDP_HEADER,
+        start: header,
+        end: header + (UDP_HEADER + body),
+        field: header + UDP_FIELD,
+        body: header + UDP_HEADER,
     }
 }
 
-// Writes the whole packet: both headers with sums of 0000, the body, and then the sums.
+// Writes the whole packet: its headers with sums of 0000 and its body, then the sums.
 fn fill(
     packet: &mut [u8],
     m: Message,
@@ -107,15 +135,23 @@ fn fill(
     destination_port: u16,
     lifetime: u8,
     body: &[u8],
-) {
-    lay_header(packet, m, source, destination, lifetime);
-    lay_datagram(packet, m, source_port, destination_port, body);
+)
+    requires { ⌜ Fits (m .family) (asked (now source) (now destination) «source_port» «destination_port» lifetime (now body)) ⌝ }
+    requires { ⌜ (m ≡ placesIn (m .family) (length (now body))) × (length (now packet) ≡ m .end) ⌝ }
+    ensures { λ _. ⌜ now (packet .exit) ≡ packetIn (m .family) (asked (now (source .entry)) (now (destination .entry)) «source_port» «destination_port» lifetime (now (body .entry))) ⌝ }
+{
+    let family = m.family;
+    lay_header(packet, family, source, destination, lifetime);
+    lay_datagram(packet, m.start, source_port, destination_port, body);
     mend::mend_header(packet, m);
     mend::set_message(packet, m);
 }
 
-fn lay_header(packet: &mut [u8], m: Message, source: &[u8], destination: &[u8], lifetime: u8) {
-    let family = m.family;
+// Writes the IP header, with a field of 0000.
+fn lay_header(packet: &mut [u8], family: Family, source: &[u8], destination: &[u8], lifetime: u8)
+    requires { ⌜ Lays family (now source) (now destination) (now packet) ⌝ }
+    ensures { λ _. ⌜ now (packet .exit) ≡ headerLeft family (now (packet .entry)) (now (source .entry)) (now (destination .entry)) lifetime ⌝ }
+{
     match family {
         Family::Four => lay_4(packet, source, destination, lifetime),
         Family::Six => lay_6(packet, source, destination, lifetime),
@@ -123,7 +159,10 @@ fn lay_header(packet: &mut [u8], m: Message, source: &[u8], destination: &[u8], 
 }
 
 // RFC 791.
-fn lay_4(packet: &mut [u8], source: &[u8], destination: &[u8], lifetime: u8) {
+fn lay_4(packet: &mut [u8], source: &[u8], destination: &[u8], lifetime: u8)
+    requires { ⌜ Lays Family.Four (now source) (now destination) (now packet) ⌝ }
+    ensures { λ _. ⌜ now (packet .exit) ≡ headerLeft Family.Four (now (packet .entry)) (now (source .entry)) (now (destination .entry)) lifetime ⌝ }
+{
     let size = packet.len();
     writes::put_8(packet, 0, [0x45, 0, high(size), low(size), 0, 0, 0, 0]);
     let rest = [lifetime, wire::UDP, 0, 0];
@@ -133,7 +172,10 @@ fn lay_4(packet: &mut [u8], source: &[u8], destination: &[u8], lifetime: u8) {
 }
 
 // RFC 8200.
-fn lay_6(packet: &mut [u8], source: &[u8], destination: &[u8], lifetime: u8) {
+fn lay_6(packet: &mut [u8], source: &[u8], destination: &[u8], lifetime: u8)
+    requires { ⌜ Lays Family.Six (now source) (now destination) (now packet) ⌝ }
+    ensures { λ _. ⌜ now (packet .exit) ≡ headerLeft Family.Six (now (packet .entry)) (now (source .entry)) (now (destination .entry)) lifetime ⌝ }
+{
     let size = packet.len() - wire::ADDRESSES_6_END;
     writes::put_8(
         packet,
@@ -144,20 +186,17 @@ fn lay_6(packet: &mut [u8], source: &[u8], destination: &[u8], lifetime: u8) {
     writes::put_16(packet, wire::ADDRESSES_6 + wire::ADDRESS_6, destination);
 }
 
-// RFC 768.
-fn lay_datagram(
-    packet: &mut [u8],
-    m: Message,
-    source_port: u16,
-    destination_port: u16,
-    body: &[u8],
-) {
+// RFC 768: writes the datagram from a place on, with a field of 0000.
+fn lay_datagram(packet: &mut [u8], at: usize, source_port: u16, destination_port: u16, body: &[u8])
+    requires { ⌜ (at + (8 + length (now body)) ≤ length (now packet)) × (length (now body) ≤ 1400) ⌝ }
+    ensures { λ _. ⌜ now (packet .exit) ≡ put (now (packet .entry)) at (Layout·datagram «source_port» «destination_port» (now (body .entry)) 0) ⌝ }
+{
     let size = UDP_HEADER + body.len();
     let from = source_port as usize;
     let to = destination_port as usize;
     writes::put_8(
         packet,
-        m.start,
+        at,
         [
             high(from),
             low(from),
@@ -169,13 +208,19 @@ fn lay_datagram(
             0,
         ],
     );
-    writes::put_bytes(packet, m.body, body);
+    writes::put_bytes(packet, at + UDP_HEADER, body);
 }
 
-fn high(n: usize) -> u8 {
+// The two bytes of a 16-bit number.
+fn high(n: usize) -> u8
+    requires { ⌜ n ≤ 65535 ⌝ }
+    ensures { λ r. ⌜ r ≡ n / 256 ⌝ }
+{
     (n / 256 % 256) as u8
 }
 
-fn low(n: usize) -> u8 {
+fn low(n: usize) -> u8
+    ensures { λ r. ⌜ r ≡ n % 256 ⌝ }
+{
     (n % 256) as u8
 }

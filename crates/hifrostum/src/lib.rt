@@ -20,7 +20,9 @@ ghost use Rattle.mend.specs.Mend.{mendOf};
 ghost use Rattle.kept.specs.Edits.{lifetimeOf, addressOf, stretchOf};
 ghost use Rattle.kept.specs.Prefix.{prefixOf};
 ghost use Rattle.capture.specs.Judged.{judgedOf};
-ghost use Rattle.hifrostum.specs.Answers.{numbered, counted, summed};
+ghost use Rattle.build.specs.Build.{builtOf};
+ghost use Rattle.build.specs.Places.{asked};
+ghost use Rattle.hifrostum.specs.Answers.{numbered, counted, summed, built as Answers·built};
 
 // The verdict on a packet.
 #[no_mangle]
@@ -94,7 +96,9 @@ pub extern "C" fn hifrostum_build_udp(
     body: &[u8],
     buffer: &mut [u8],
     length: &mut usize,
-) -> u8 {
+) -> u8
+    ensures { λ r. ⌜ (r, (now (length .exit), now (buffer .exit))) ≡ Answers·built (builtOf (asked (now (source .entry)) (now (destination .entry)) «source_port» «destination_port» lifetime (now (body .entry))) (now (buffer .entry))) ⌝ }
+{
     let built = build::build_udp(
         source,
         destination,
