@@ -9,7 +9,7 @@ use Rattle.hifrostum.proofs.hifrostum_build_udp.Tie as tie
 returns : tie.Need-returns
 returns c =
     let b = c .before .before .before .build-udp in
-    ap (λ (n : ℕ). (n, (b .result .length, b .last .0))) (c .number .ensures) ∙ ap built (b .ensures)
+    ap (λ (n : ℕ). (n, (b .result .length, b .last .1 .1 .1 .1 .1 .1 .0))) (c .number .ensures) ∙ ap built (b .ensures)
 
 pub hifrostum-build-udp-spec : {M : Type 1} → statement M
 hifrostum-build-udp-spec =
