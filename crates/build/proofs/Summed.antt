@@ -14,7 +14,7 @@ use Rattle.wire.specs.Messages.{coveredIn}
 use Rattle.wire.specs.Inner.{fieldAt}
 use Rattle.wire.specs.declared.Family.{Family}
 use Rattle.wire.specs.declared.Family.the-variants.{Four, Six}
-use Rattle.cover.specs.Sums.{headerTotal}
+use Rattle.cover.specs.Sums.{headerTotal, messageTotal}
 use Rattle.mend.specs.Fresh.{sent, freshHeader, freshMessage}
 use Rattle.mend.specs.Mend.{mendedHeader}
 use Rattle.build.specs.Layout.{Asked, word, datagramSize, headerOf, datagramOf, headerSize, laid, packetIn}
@@ -71,14 +71,12 @@ mended-header-is Four a h m s =
     ap (λ v. putWord (laid Four a h m) headerField v) (fresh-header-is a h m s ∙ sym (fresh-header-is a 0 0 s)) ∙ header-over a h m (freshHeader (laid Four a 0 0))
 mended-header-is Six a h m s = refl
 
-pub set-message-is : (f : Family) (a : Asked) (h m : ℕ) → Fits f a
-    → putWord (laid f a h m) (fieldAt (laid f a h m)) (freshMessage (laid f a h m)) ≡ laid f a h (freshMessage (laid f a 0 0))
-set-message-is f a h m s =
-    ap₂ (λ i v. putWord (laid f a h m) i v) (field-is (read f a h m s)) (fresh-message-is a h m s ∙ sym (fresh-message-is a 0 0 s))
-    ∙ message-over a h m s (freshMessage (laid f a 0 0))
-
--- laid out with fields of 0000, and then mended: the packet
-pub filled : (f : Family) (a : Asked) (p q r : List ℕ) → Fits f a → p ≡ laid f a 0 0 → q ≡ mendedHeader p → r ≡ putWord q (fieldAt q) (freshMessage q) → r ≡ packetIn f a
-filled f a p q r s x y z =
-    let e : q ≡ laid f a (freshHeader (laid f a 0 0)) 0 = y ∙ ap mendedHeader x ∙ mended-header-is f a 0 0 s in
-    z ∙ rw e (set-message-is f a (freshHeader (laid f a 0 0)) 0 s)
+-- laid out with fields of 0000, its header mended, and the datagram's field worked out from all its bytes: the packet
+pub filled : (f : Family) (a : Asked) (at w : ℕ) {p q r : List ℕ} → Fits f a → p ≡ laid f a 0 0 → q ≡ mendedHeader p → at ≡ headerSize f + 6
+    → w ≡ sent true (fieldOf (fold (messageTotal q))) → r ≡ putWord q at w → r ≡ packetIn f a
+filled f a at w s x y i e z =
+    let h = freshHeader (laid f a 0 0) in
+    let g = y ∙ ap mendedHeader x ∙ mended-header-is f a 0 0 s in
+    let v : w ≡ freshMessage (laid f a 0 0) =
+    e ∙ ap (λ q. sent true (fieldOf (fold (messageTotal q)))) g ∙ ap (λ t. sent true (fieldOf (fold t))) (total-is (read f a h 0 s)) ∙ sym (fresh-message-is a 0 0 s) in
+    z ∙ rw (g, i, v) (message-over a h 0 s (freshMessage (laid f a 0 0)))

@@ -1,7 +1,7 @@
 // A packet of the hut's own: UDP over IPv4 or IPv6, laid into a lent buffer with fresh sums.
 //
-// The bytes are written in the order in which the RFCs have them, the sums last and by the mender's own functions. A refused
-// call changes no byte, and what lies behind the packet in the buffer stays.
+// The bytes are written in the order in which the RFCs have them, with sums of 0000, and then the sums. A refused call changes
+// no byte, and what lies behind the packet in the buffer stays.
 use verdicts::Verdict;
 use wire::Family;
 use wire::Message;
@@ -9,7 +9,11 @@ ghost use mathlib.Core.Path.{_≡_};
 ghost use mathlib.Core.Bool.{true};
 ghost use Prim.Native.Nat.{_+_, _/_, _%_, _≤_};
 ghost use lib.ListN.{length};
+ghost use Rattle.sums.specs.Fold.{fold, swap, fieldOf};
 ghost use Rattle.wire.specs.Bytes.{put};
+ghost use Rattle.wire.specs.Inner.{Holds};
+ghost use Rattle.cover.specs.Sums.{messageTotal};
+ghost use Rattle.mend.specs.Fresh.{sent};
 ghost use Rattle.build.specs.Layout.{datagram as Layout·datagram, familyFor, packetIn};
 ghost use Rattle.build.specs.Build.{neither as Build·neither, unfit as Build·unfit, refusal, builtOf};
 ghost use Rattle.build.specs.Places.{Fits, placesIn, Lays, headerLeft, asked};
@@ -144,7 +148,8 @@ fn fill(
     lay_header(packet, family, source, destination, lifetime);
     lay_datagram(packet, m.start, source_port, destination_port, body);
     mend::mend_header(packet, m);
-    mend::set_message(packet, m);
+    let fresh = fresh_field(packet, m);
+    writes::put_low(packet, m.field, fresh);
 }
 
 // Writes the IP header, with a field of 0000.
@@ -209,6 +214,21 @@ fn lay_datagram(packet: &mut [u8], at: usize, source_port: u16, destination_port
         ],
     );
     writes::put_bytes(packet, at + UDP_HEADER, body);
+}
+
+// The datagram's field, where 0000 stands in it. The mender's own takes out what stands there, and asks what the protocol is.
+fn fresh_field(packet: &[u8], m: Message) -> u64
+    requires { ⌜ Holds (now packet) m ⌝ }
+    ensures { λ r. ⌜ (r ≤ 65535) × (swap r ≡ sent true (fieldOf (fold (messageTotal (now (packet .entry)))))) ⌝ }
+{
+    let start = m.start;
+    let end = m.end;
+    let before = cover::pseudo_total(packet, m);
+    let fresh = sums::field_low(sums::total(&packet[start..end], before));
+    if fresh == 0 {
+        return 65535;
+    }
+    fresh
 }
 
 // The two bytes of a 16-bit number.

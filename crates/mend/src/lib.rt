@@ -81,14 +81,6 @@ fn mend_message(packet: &mut [u8], m: Message)
     if kept(packet, m) {
         return;
     }
-    set_message(packet, m);
-}
-
-// Sets the message's field, whatever stood in it.
-pub fn set_message(packet: &mut [u8], m: Message)
-    requires { ⌜ Holds (now packet) m ⌝ }
-    ensures { λ _. ⌜ now (packet .exit) ≡ putWord (now (packet .entry)) (fieldAt (now (packet .entry))) (freshMessage (now (packet .entry))) ⌝ }
-{
     let fresh = fresh_message(packet, m);
     writes::put_low(packet, m.field, fresh);
 }

@@ -5,6 +5,7 @@ use native.Mathlib.Omega.{arith}
 use mathlib.Core.List.{List}
 use lib.ListN.{length}
 use denote.Ref.{now}
+use Rattle.sums.specs.Fold.{swap}
 use Rattle.wire.specs.Inner.{Holds}
 use Rattle.wire.specs.declared.Family.{Family}
 use Rattle.wire.specs.declared.Message.{Message}
@@ -28,6 +29,9 @@ module _ (c : tie.Start) where
 
   start : c .args .m .start ≡ headerSize family
   start = ap (λ (m : Message). m .start) (c .pre .1 .0)
+
+  field : c .args .m .field ≡ headerSize family + 6
+  field = ap (λ (m : Message). m .field) (c .pre .1 .0)
 
   long : length (now (c .args .packet)) ≡ headerSize family + (8 + length (now (c .args .body)))
   long = c .pre .1 .1 ∙ ap (λ (m : Message). m .end) (c .pre .1 .0)
@@ -54,21 +58,30 @@ mend-header-requires c κs =
     let b = d .before .before .before .before .before .before .before .before .before .before in
     held (family b) (wanted b) 0 (b .pre .0) (b .pre .1 .0) (blank d)
 
-set-message-requires : tie.Need-set-message-requires
-set-message-requires c κs =
-    let h = c .before .before .before in
-    let d = h .before .before .before .before in
+-- and the header's field is set
+header : (c : tie.After-mend-header) → let b = c .before .before .before .before .before .before .before .before .before .before .before .before .before .before in Holds (c .mend-header .last .0) (b .args .m)
+header c =
+    let d = c .before .before .before .before in
     let b = d .before .before .before .before .before .before .before .before .before .before in
     held (family b) (wanted b) (freshHeader (laid (family b) (wanted b) 0 0)) (b .pre .0) (b .pre .1 .0)
-    (h .mend-header .ensures ∙ ap mendedHeader (blank d) ∙ mended-header-is (family b) (wanted b) 0 0 (b .pre .0))
+    (c .mend-header .ensures ∙ ap mendedHeader (blank d) ∙ mended-header-is (family b) (wanted b) 0 0 (b .pre .0))
+
+put-low-requires : tie.Need-put-low-requires
+put-low-requires c κs =
+    let d = c .before .before .before .before .before .before .before .before .before in
+    let b = d .before .before .before .before .before .before .before .before .before .before in
+    let l = long b in
+    let f = field b in
+    (omega arith, c .before .fresh-field .ensures .0)
 
 returns : tie.Need-returns
 returns c =
-    let m = c .before .before in
-    let h = m .before .before .before .before in
+    let w = c .before .before in
+    let f = w .before .before in
+    let h = f .before .before .before .before in
     let d = h .before .before .before .before in
     let b = d .before .before .before .before .before .before .before .before .before .before in
-    filled (family b) (wanted b) (d .lay-datagram .last .0) (h .mend-header .last .0) (m .set-message .last .0) (b .pre .0) (blank d) (h .mend-header .ensures) (m .set-message .ensures)
+    filled (family b) (wanted b) (b .args .m .field) (swap (f .fresh-field .result)) (b .pre .0) (blank d) (h .mend-header .ensures) (field b) (f .fresh-field .ensures .1) (w .put-low .ensures)
 
 pub fill-spec : {M : Type 1} → statement M
 fill-spec =
@@ -77,6 +90,7 @@ fill-spec =
     (λ c κs. let b = c .before .before .before .before .before in lays (family b) (wanted b) (now (b .args .packet)) (b .pre .0) (long b))
     lay-datagram-requires
     mend-header-requires
-    set-message-requires
+    (λ c κs. header (c .before .before .before))
+    put-low-requires
     (λ c. search needs)
     returns)
