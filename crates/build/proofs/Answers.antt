@@ -1,27 +1,23 @@
 -- Each answer, from the facts that lead to it.
 use mathlib.Core.Path.{_≡_, refl, sym, ap, ap₂, _∙_}
-use Prim.Native.Nat.{ℕ, _+_, _<_, _≤_}
+use Prim.Native.Nat.{ℕ, _<_, _≤_}
 use native.Mathlib.Omega.{arith}
 use mathlib.Core.List.{List, _++_}
-use mathlib.Core.Bool.{Bool, true, false, not, _||_, true≢false}
+use mathlib.Core.Bool.{Bool, true, false, not, _||_}
 use lib.ListN.{length, take, drop}
 use lib.Seq.{length-take-le}
 use lib.Dec.{ltb, eqb}
 use borrow.Author.Tests.{lt-ltb, le-ltb, eq-eqb, ne-eqb, ltb-false, eqb-true, eqb-false, not-false}
-use Rattle.verdicts.specs.Rules.{clear}
-use Rattle.verdicts.specs.declared.Verdict.the-variants.{Good, Place, Spent, Room}
+use Rattle.verdicts.specs.declared.Verdict.the-variants.{Place, Spent, Room}
 use Rattle.verdicts.proofs.Tests.{by-cases, or-false}
 use Rattle.verdicts.proofs.Rules.{clear-first}
 use Rattle.wire.specs.Bytes.{put}
-use Rattle.wire.specs.declared.Family.{Family}
-use Rattle.wire.specs.declared.Family.the-variants.{Four, Six}
-use Rattle.build.specs.Layout.{Asked, familyFor, headerSize, datagramSize, sizeOf, packetIn, packetOf}
+use Rattle.build.specs.Layout.{Asked, familyFor, sizeOf, packetIn, packetOf}
 use Rattle.wire.specs.declared.Message.{Message}
 use Rattle.build.specs.Places.{Fits, placesIn}
-use Rattle.build.specs.Build.{neither, unfit, buildRules, refusal, builtOf}
+use Rattle.build.specs.Build.{neither, unfit, buildRules, refusal, done, builtOf}
 use Rattle.build.proofs.Laid.{read}
 use Rattle.build.proofs.Steps.{put-first}
-use Rattle.build.specs.declared.Built.{Built}
 
 abbrev pub misfit : Asked → Bool
 misfit a = unfit (length (a .source)) (length (a .destination)) (length (a .body))
@@ -63,25 +59,22 @@ pub packet-long : (a : Asked) → misfit a ≡ false → length (packetOf a) ≡
 unfolding packetOf
 packet-long a u = read (familyFor (a .source)) a _ _ (fits a u) .long
 
-abbrev answer : ℕ → Built
-answer size = record { verdict = Good; length = size }
-
 pub at-good : (a : Asked) (buffer : List ℕ) → misfit a ≡ false → (a .lifetime ≡ 0 → ⊥) → sizeOf a ≤ length buffer
-    → (answer (sizeOf a), packetOf a ++ drop (sizeOf a) buffer) ≡ builtOf a buffer
+    → (done (sizeOf a), packetOf a ++ drop (sizeOf a) buffer) ≡ builtOf a buffer
 unfolding builtOf buildRules
 at-good a buffer u z l =
     let n = packet-long a u in
     let p : put buffer 0 (packetOf a) ≡ packetOf a ++ drop (sizeOf a) buffer =
     put-first buffer (packetOf a) (omega arith) ∙ ap (λ k. packetOf a ++ drop k buffer) n in
-    sym (clear-first (buildRules a (length buffer)) (λ v. (refusal v, buffer)) (answer (length (packetOf a)), put buffer 0 (packetOf a))
+    sym (clear-first (buildRules a (length buffer)) (λ v. (refusal v, buffer)) (done (length (packetOf a)), put buffer 0 (packetOf a))
     (u, (ne-eqb (a .lifetime) 0 z, (le-ltb (length buffer) (sizeOf a) l, tt)))
-    ∙ ap₂ (λ (k : ℕ) (q : List ℕ). (answer k, q)) n p)
+    ∙ ap₂ (λ (k : ℕ) (q : List ℕ). (done k, q)) n p)
 
 -- ---- by the places that were worked out
 module _ (a : Asked) (m : Message) (buffer : List ℕ) (u : misfit a ≡ false) (e : m ≡ placesIn (familyFor (a .source)) (length (a .body))) (l : m .end ≤ length buffer) where
   pub asks-fill : Fits (m .family) a × ((m ≡ placesIn (m .family) (length (a .body))) × (length (take (m .end) buffer) ≡ m .end))
   asks-fill = rw e (fits a u, (refl, length-take-le (sizeOf a) buffer (rw e at l)))
 
-  pub filled-good : {p : List ℕ} → (a .lifetime ≡ 0 → ⊥) → p ≡ packetIn (m .family) a → (answer (m .end), p ++ drop (m .end) buffer) ≡ builtOf a buffer
+  pub filled-good : {p : List ℕ} → (a .lifetime ≡ 0 → ⊥) → p ≡ packetIn (m .family) a → (done (m .end), p ++ drop (m .end) buffer) ≡ builtOf a buffer
   unfolding packetOf
   filled-good z f = rw (f, e) (at-good a buffer u z (rw e at l))

@@ -1,27 +1,31 @@
 -- A packet laid out, read by the places that judge, mender and edits go by.
 use mathlib.Core.Path.{_≡_, refl, sym, ap, ap₂, _∙_}
-use Prim.Native.Nat.{ℕ, _+_, _-_, _≤_}
+use Prim.Native.Nat.{ℕ, _+_, _-_, _<_}
 use native.Mathlib.Omega.{arith}
-use mathlib.Core.List.{List, [], _∷_, _++_}
+use mathlib.Core.List.{List, _++_, append-assoc}
+use mathlib.Core.Logic.{inl, inr}
 use mathlib.Core.Bool.{true, false, _||_}
-use lib.ListN.{length, length-append, drop}
-use lib.Seq.{take-at, drop-at, take-all}
+use lib.ListN.{length, length-append, take, drop}
+use lib.Seq.{take-at, drop-at, take-all, drop-drop}
+use native.Mathlib.Nat.{add-zero}
 use lib.Dec.{ltb, eqb}
 use borrow.Author.Tests.{ne-eqb, le-ltb}
 use Rattle.verdicts.specs.Rules.{clear}
 use Rattle.sums.specs.Total.{total}
 use Rattle.cover.specs.Sums.{messageTotal}
-use Rattle.wire.specs.Bytes.{byteAt, wordAt}
-use Rattle.wire.specs.Outer.{familyOf, headerEnd, declaredEnd, nextOf, fragmentOf, lifetimeAt, outerRules}
+use Rattle.wire.specs.Bytes.{byteAt, wordAt, part}
+use Rattle.wire.specs.Outer.{familyOf, headerEnd, declaredEnd, nextOf, fragmentOf, lifetimeAt, addressesAt, addressSize as Outer·addressSize, outerRules}
 use Rattle.wire.specs.Walk.{reached, walkOf, walkBy, metOf, between}
 use Rattle.wire.specs.Table.{rowOf, uncovered}
 use Rattle.wire.specs.Messages.{planIn, saidIn, shapeRules, coveredIn}
-use Rattle.wire.specs.Inner.{startOf, protocolOf, carriedOf, endOf, fieldAt, bodyOf, pseudo, messageRules, addressesOf, messageBytes, silentOf, Holds}
+use Rattle.wire.specs.Inner.{startOf, protocolOf, carriedOf, endOf, fieldAt, bodyOf, pseudo, messageRules, addressesOf, lengthOf, messageBytes, silentOf, Holds}
 use Rattle.wire.specs.declared.Family.{Family}
 use Rattle.wire.specs.declared.Family.the-variants.{Four, Six}
 use Rattle.wire.specs.declared.Plan.{Plan}
+use Rattle.wire.proofs.Parts.{part-word}
 use Rattle.build.specs.Layout.{Asked, datagramSize, datagramOf, headerSize, laid}
 use Rattle.build.specs.Places.{addressSize, Fits, placesIn}
+use Rattle.build.specs.Reads.{Plain}
 
 pub record Read (f : Family) (a : Asked) (m : ℕ) (p : List ℕ) : Type 0 where
   pub long : length p ≡ headerSize f + datagramSize a
@@ -31,11 +35,21 @@ pub record Read (f : Family) (a : Asked) (m : ℕ) (p : List ℕ) : Type 0 where
   pub outer : clear (outerRules p)
   pub walk : walkOf p ≡ reached 17 (headerSize f)
   pub addresses : addressesOf p ≡ a .source ++ a .destination
+  pub source : part p (addressesAt p) (Outer·addressSize p) ≡ a .source
+  pub destination : part p (addressesAt p + Outer·addressSize p) (Outer·addressSize p) ≡ a .destination
   pub lifetime : byteAt p (lifetimeAt p) ≡ a .lifetime
   pub behind : drop (headerSize f) p ≡ datagramOf a m
+  pub plain : startOf p ≡ headerSize f → Plain p
 
 pub addresses-long : {f : Family} {a : Asked} → Fits f a → length (a .source ++ a .destination) ≡ addressSize f + addressSize f
 addresses-long {f} {a} s = let x = s .source in let y = s .destination in omega (arith, length-append (a .source) (a .destination))
+
+-- two strings of one size, and what follows them
+first-of : (n : ℕ) (xs ys zs : List ℕ) → length xs ≡ n → take n ((xs ++ ys) ++ zs) ≡ xs
+first-of n xs ys zs e = rw (append-assoc xs ys zs) (take-at xs (ys ++ zs) n e)
+
+second-of : (n : ℕ) (xs ys zs : List ℕ) → length xs ≡ n → length ys ≡ n → take n (drop n ((xs ++ ys) ++ zs)) ≡ ys
+second-of n xs ys zs e f = rw (append-assoc xs ys zs, drop-at xs (ys ++ zs) n e) (take-at ys zs n f)
 
 module _ (a : Asked) (h m : ℕ) where
   module _ (s : Fits Four a) where
@@ -64,8 +78,11 @@ module _ (a : Asked) (h m : ℕ) where
           );
           walk = refl;
           addresses = take-at (a .source ++ a .destination) (datagramOf a m) 8 (addresses-long s);
+          source = first-of 4 (a .source) (a .destination) (datagramOf a m) (s .source);
+          destination = second-of 4 (a .source) (a .destination) (datagramOf a m) (s .source) (s .destination);
           lifetime = refl;
           behind = drop-at (a .source ++ a .destination) (datagramOf a m) 8 (addresses-long s);
+          plain = λ e. inl (refl, e, refl, refl, refl);
         }
 
   module _ (s : Fits Six a) where
@@ -94,8 +111,11 @@ module _ (a : Asked) (h m : ℕ) where
           );
           walk = refl;
           addresses = take-at (a .source ++ a .destination) (datagramOf a m) 32 (addresses-long s);
+          source = first-of 16 (a .source) (a .destination) (datagramOf a m) (s .source);
+          destination = second-of 16 (a .source) (a .destination) (datagramOf a m) (s .source) (s .destination);
           lifetime = refl;
           behind = drop-at (a .source ++ a .destination) (datagramOf a m) 32 (addresses-long s);
+          plain = λ e. inr (refl, e, refl, refl);
         }
 
 pub read : (family : Family) (a : Asked) (h m : ℕ) → Fits family a → Read family a m (laid family a h m)
@@ -168,3 +188,18 @@ module _ {f : Family} {a : Asked} {m : ℕ} {p : List ℕ} (r : Read f a m p) wh
   pub silent-is : silentOf p ≡ eqb m 0
   unfolding silentOf
   silent-is = rw (r .family, protocol-is, bytes-is, plan-is f) (ap (λ w. eqb w 0) (let e : wordAt (datagramOf a m) 6 ≡ m = omega arith in e))
+
+  -- ports and body
+  word-is : (i : ℕ) → i + 1 < datagramSize a → wordAt p (startOf p + i) ≡ wordAt (datagramOf a m) i
+  word-is i h = sym (part-word p (startOf p) (lengthOf p) i (omega (arith, start-is, end-is))) ∙ ap (λ xs. wordAt xs i) bytes-is
+
+  pub source-port-is : wordAt p (startOf p) ≡ a .sourcePort
+  source-port-is = ap (wordAt p) (sym (add-zero (startOf p))) ∙ word-is 0 (omega arith) ∙ omega arith
+
+  pub destination-port-is : wordAt p (startOf p + 2) ≡ a .destinationPort
+  destination-port-is = word-is 2 (omega arith) ∙ omega arith
+
+  pub data-is : part p (bodyOf p) (endOf p - bodyOf p) ≡ a .body
+  data-is =
+      rw (body-is, end-is, sym (drop-drop 8 (headerSize f) p), r .behind)
+      (take-all (headerSize f + datagramSize a - (headerSize f + 8)) (a .body) (omega arith))

@@ -3,3 +3,4 @@ pub mod Laid
 pub mod Summed
 pub mod Steps
 pub mod Answers
+pub mod Promised

@@ -54,7 +54,7 @@ module _ (a : Asked) (h m : ℕ) where
         (word-over (headerOf f a h ++ front) (a .body) m v)
 
     -- the fresh fields are those of the blank packet, whatever stands in them
-    fresh-message-is : freshMessage (laid f a h m) ≡ sent true (fieldOf (fold (total (coveredIn f 17 (a .source ++ a .destination) (datagramOf a 0)))))
+    pub fresh-message-is : freshMessage (laid f a h m) ≡ sent true (fieldOf (fold (total (coveredIn f 17 (a .source ++ a .destination) (datagramOf a 0)))))
     unfolding freshMessage
     fresh-message-is =
         let r = read f a h m s in
@@ -70,6 +70,12 @@ unfolding mendedHeader laid
 mended-header-is Four a h m s =
     ap (λ v. putWord (laid Four a h m) headerField v) (fresh-header-is a h m s ∙ sym (fresh-header-is a 0 0 s)) ∙ header-over a h m (freshHeader (laid Four a 0 0))
 mended-header-is Six a h m s = refl
+
+pub message-set : (f : Family) (a : Asked) (h m : ℕ) → Fits f a
+    → putWord (laid f a h m) (fieldAt (laid f a h m)) (freshMessage (laid f a h m)) ≡ laid f a h (freshMessage (laid f a 0 0))
+message-set f a h m s =
+    ap₂ (λ i v. putWord (laid f a h m) i v) (field-is (read f a h m s)) (fresh-message-is a h m s ∙ sym (fresh-message-is a 0 0 s))
+    ∙ message-over a h m s (freshMessage (laid f a 0 0))
 
 -- laid out with fields of 0000, its header mended, and the datagram's field worked out from all its bytes: the packet
 pub filled : (f : Family) (a : Asked) (at w : ℕ) {p q r : List ℕ} → Fits f a → p ≡ laid f a 0 0 → q ≡ mendedHeader p → at ≡ headerSize f + 6

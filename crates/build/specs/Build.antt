@@ -29,9 +29,12 @@ buildRules a room =
 abbrev pub refusal : Verdict → Built
 refusal v = record { verdict = v; length = 0 }
 
+abbrev pub done : ℕ → Built
+done size = record { verdict = Good; length = size }
+
 -- the answer, and the buffer afterwards: a refusal leaves it as it was, and else the packet stands in its first bytes
 unfoldable pub builtOf : Asked → List ℕ → Built × List ℕ
 builtOf a buffer =
     first (buildRules a (length buffer))
     (λ v. (refusal v, buffer))
-    (record { verdict = Good; length = length (packetOf a) }, put buffer 0 (packetOf a))
+    (done (length (packetOf a)), put buffer 0 (packetOf a))

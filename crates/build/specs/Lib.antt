@@ -2,3 +2,4 @@
 pub mod Layout
 pub mod Build
 pub mod Places
+pub mod Reads

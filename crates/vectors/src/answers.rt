@@ -4,13 +4,16 @@ use crate::cases::LARGEST;
 use crate::cases::LISTED;
 use crate::cases::SUM;
 use crate::cases::WIDTH;
+use crate::cases::destination_size;
 use crate::cases::expected_size;
 use crate::cases::long;
 use crate::cases::quad;
+use crate::cases::source_size;
 use crate::cases::within;
 use crate::operation;
 use crate::print::print;
 use crate::print::put;
+use build::Built;
 use capture::judge_capture;
 use fragments::Fragment;
 use lines::State;
@@ -42,6 +45,7 @@ fn answer_on(operation: u8, a: u64, buffer: &mut [u8], second: &[u8]) {
         operation::CAPTURE => captured(buffer, a as usize),
         operation::CHAIN => chained(buffer, second),
         operation::FRAGMENTS => put_verdict(gathered(buffer, second), b"\n"),
+        operation::BUILD => built(a, buffer, second),
         operation::UPDATE => updated(a),
         operation::JOIN => joined(second),
         operation::PRINTED => printed(buffer),
@@ -156,6 +160,30 @@ fn fragment_at(bytes: &[u8], at: usize) -> Fragment
         offset: long(bytes, at) as usize,
         length: long(bytes, at + 8) as usize,
     }
+}
+
+// A packet built in the buffer: the verdict, the packet's length, and the digest of what is in the buffer now.
+fn built(a: u64, buffer: &mut [u8], second: &[u8]) {
+    let n = within(second, source_size(a));
+    let built = build_between(a, &second[..n], &second[n..], buffer);
+    let verdict = built.verdict;
+    put_verdict(verdict, b" ");
+    put(built.length as u64, b" ");
+    put(digest(buffer), b"\n");
+}
+
+// Behind the source payload two is the destination and then the body.
+fn build_between(a: u64, source: &[u8], rest: &[u8], buffer: &mut [u8]) -> Built {
+    let n = within(rest, destination_size(a));
+    build::build_udp(
+        source,
+        &rest[..n],
+        bits(a, 281474976710656),
+        bits(a, 4294967296),
+        (a / 16777216 % 256) as u8,
+        &rest[n..],
+        buffer,
+    )
 }
 
 fn put_joined(joined: Joined) {

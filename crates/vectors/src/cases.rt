@@ -82,7 +82,7 @@ fn case_of(bytes: &[u8; HEAD]) -> Case {
 }
 
 fn malformed(case: Case) -> bool {
-    if operation::FRAGMENTS < case.operation {
+    if operation::BUILD < case.operation {
         return true;
     }
     if AGAIN < case.source {
@@ -109,12 +109,28 @@ fn malformed(case: Case) -> bool {
     if case.operation == operation::FRAGMENTS {
         return case.two % LISTED != 0;
     }
+    if case.operation == operation::BUILD {
+        return case.two < source_size(case.number) + destination_size(case.number);
+    }
     false
 }
 
 // The size of the expected prefix, in the upper half of the number of a prefix exchange.
 pub fn expected_size(number: u64) -> usize {
     (number / 4294967296) as usize
+}
+
+// The sizes of the two addresses, 12 bits each at the end of the number of a build.
+pub fn source_size(number: u64) -> usize
+    ensures { λ r. ⌜ r ≤ 4095 ⌝ }
+{
+    (number / 4096 % 4096) as usize
+}
+
+pub fn destination_size(number: u64) -> usize
+    ensures { λ r. ⌜ r ≤ 4095 ⌝ }
+{
+    (number % 4096) as usize
 }
 
 fn wide(b: u8) -> u64

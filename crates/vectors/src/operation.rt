@@ -28,3 +28,5 @@ pub const PRINTED: u8 = 12;
 pub const PREFIX: u8 = 13;
 
 pub const FRAGMENTS: u8 = 14;
+
+pub const BUILD: u8 = 15;

@@ -1,15 +1,13 @@
 -- Each refusal in its case, and the packet in the buffer's first bytes.
-use mathlib.Core.Path.{_≡_, _∙_, sym, ap, ap₂}
-use Prim.Native.Nat.{ℕ, _≤_}
+use mathlib.Core.Path.{_≡_, _∙_, sym, ap}
+use Prim.Native.Nat.{ℕ}
 use native.Mathlib.Omega.{arith}
-use mathlib.Core.List.{List, _++_}
+use mathlib.Core.List.{List}
 use mathlib.Core.Bool.{false}
-use lib.ListN.{length, drop}
-use lib.Seq.{length-take-le}
 use denote.Ref.{now}
 use Rattle.wire.specs.declared.Message.{Message}
-use Rattle.build.specs.Layout.{Asked, familyFor, sizeOf, packetOf}
-use Rattle.build.specs.Places.{asked, placesIn}
+use Rattle.build.specs.Layout.{Asked}
+use Rattle.build.specs.Places.{asked}
 use Rattle.build.specs.declared.Built.{Built}
 use Rattle.build.proofs.Answers.{misfit, at-place, at-spent, at-room, asks-fill, filled-good, fits}
 use borrow.Author.Needs.{needs}

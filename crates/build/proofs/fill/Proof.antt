@@ -1,8 +1,7 @@
 -- The packet is laid out with fields of 0000, and mended.
-use mathlib.Core.Path.{_≡_, _∙_, sym, ap, subst}
-use Prim.Native.Nat.{ℕ, _+_, _≤_}
+use mathlib.Core.Path.{_≡_, _∙_, ap}
+use Prim.Native.Nat.{_+_}
 use native.Mathlib.Omega.{arith}
-use mathlib.Core.List.{List}
 use lib.ListN.{length}
 use denote.Ref.{now}
 use Rattle.sums.specs.Fold.{swap}
@@ -13,7 +12,7 @@ use Rattle.mend.specs.Fresh.{freshHeader}
 use Rattle.mend.specs.Mend.{mendedHeader}
 use Rattle.wire.specs.Bytes.{put}
 use Rattle.build.specs.Layout.{Asked, headerSize, datagramOf, laid}
-use Rattle.build.specs.Places.{placesIn, asked}
+use Rattle.build.specs.Places.{asked}
 use Rattle.build.proofs.Summed.{mended-header-is, filled}
 use Rattle.build.proofs.Steps.{laid-out, lays, held}
 use borrow.Author.Needs.{needs}

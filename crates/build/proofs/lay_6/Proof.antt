@@ -1,6 +1,5 @@
 -- The eight bytes before the addresses, and the addresses behind them.
 use denote.Ref.{now}
-use native.Mathlib.Omega.{arith}
 use Prim.Native.Nat.{_-_}
 use lib.ListN.{length}
 use Rattle.build.proofs.Steps.{laid6}
