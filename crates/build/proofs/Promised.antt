@@ -174,9 +174,9 @@ module _ (a : Asked) (buffer : List ℕ) where
 
 -- ---- of two calls: that leave the same packet, asked for the same
 pub built-apart : (a b : Asked) (buffer other : List ℕ) {q r : List ℕ} {n m : ℕ} → Builds a buffer n q → Builds b other m r → take n q ≡ take m r → a ≡ b
-built-apart a b buffer other i j e =
+built-apart a b buffer other {q} {r} {n} i j e =
     let x = built-read a buffer i .0 in
-    let y : Reads b _ = rw e (built-read b other j .0) in
+    let y : Reads b (take n q) = rw e (built-read b other j .0) in
     same (sym (x .source) ∙ y .source) (sym (x .destination) ∙ y .destination) (sym (x .sourcePort) ∙ y .sourcePort) (sym (x .destinationPort) ∙ y .destinationPort)
     (sym (x .lifetime) ∙ y .lifetime) (sym (x .body) ∙ y .body)
   where
