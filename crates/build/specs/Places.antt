@@ -20,17 +20,20 @@ pub record Fits (family : Family) (a : Asked) : Type 0 where
   pub destination : length (a .destination) ≡ addressSize family
   pub body : length (a .body) ≤ 1400
 
--- where a datagram with so long a body stands
-abbrev pub placesIn : Family → ℕ → Message
-placesIn family body = record {
+-- where a datagram with so long a body stands, behind a header of so many bytes, and behind the family's
+abbrev pub placesAt : Family → (header body : ℕ) → Message
+placesAt family header body = record {
   family = family;
   protocol = 17;
   pseudo = true;
-  start = headerSize family;
-  end = headerSize family + (8 + body);
-  field = headerSize family + 6;
-  body = headerSize family + 8;
+  start = header;
+  end = header + (8 + body);
+  field = header + 6;
+  body = header + 8;
 }
+
+abbrev pub placesIn : Family → ℕ → Message
+placesIn family body = placesAt family (headerSize family) body
 
 -- what laying out a header asks: addresses of the family's size, and a packet as long as the whole is to be
 pub record Lays (family : Family) (s d packet : List ℕ) : Type 0 where

@@ -14,7 +14,7 @@ ghost use Rattle.wire.specs.Bytes.{put};
 ghost use Rattle.wire.specs.Inner.{Holds};
 ghost use Rattle.cover.specs.Sums.{messageTotal};
 ghost use Rattle.mend.specs.Fresh.{sent};
-ghost use Rattle.build.specs.Layout.{datagram as Layout·datagram, familyFor, packetIn};
+ghost use Rattle.build.specs.Layout.{datagram as Layout·datagram, familyFor, headerSize, packetIn};
 ghost use Rattle.build.specs.Build.{neither as Build·neither, unfit as Build·unfit, refusal, builtOf};
 ghost use Rattle.build.specs.Places.{Fits, placesIn, Lays, headerLeft, asked};
 
@@ -113,10 +113,10 @@ fn places(source: &[u8], body: usize) -> Message
     behind(Family::Six, wire::ADDRESSES_6_END, body)
 }
 
-// A datagram behind a header of so many bytes.
+// A datagram behind its family's header, which has so many bytes.
 fn behind(family: Family, header: usize, body: usize) -> Message
-    requires { ⌜ (header ≤ 40) × (body ≤ 1400) ⌝ }
-    ensures { λ r. ⌜ r ≡ record { family = family; protocol = 17; pseudo = true; start = header; end = header + (8 + body); field = header + 6; body = header + 8 } ⌝ }
+    requires { ⌜ (header ≡ headerSize family) × (header ≤ 40) × (body ≤ 1400) ⌝ }
+    ensures { λ r. ⌜ r ≡ placesIn family body ⌝ }
 {
     Message {
         family,
