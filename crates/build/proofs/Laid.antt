@@ -14,7 +14,7 @@ use Rattle.verdicts.specs.Rules.{clear}
 use Rattle.sums.specs.Total.{total}
 use Rattle.cover.specs.Sums.{messageTotal}
 use Rattle.wire.specs.Bytes.{byteAt, wordAt, part}
-use Rattle.wire.specs.Outer.{familyOf, headerEnd, declaredEnd, nextOf, fragmentOf, lifetimeAt, addressesAt, addressSize as Outer·addressSize, outerRules}
+use Rattle.wire.specs.Outer.{familyOf, headerEnd, declaredEnd, nextOf, fragmentOf, lifetimeAt, addressesAt, addressSize, outerRules}
 use Rattle.wire.specs.Walk.{reached, walkOf, walkBy, metOf, between}
 use Rattle.wire.specs.Table.{rowOf, uncovered}
 use Rattle.wire.specs.Messages.{planIn, saidIn, shapeRules, coveredIn}
@@ -23,8 +23,8 @@ use Rattle.wire.specs.declared.Family.{Family}
 use Rattle.wire.specs.declared.Family.the-variants.{Four, Six}
 use Rattle.wire.specs.declared.Plan.{Plan}
 use Rattle.wire.proofs.Parts.{part-word}
-use Rattle.build.specs.Layout.{Asked, datagramSize, datagramOf, headerSize, laid}
-use Rattle.build.specs.Places.{addressSize, Fits, placesIn}
+use Rattle.build.specs.Layout.{Asked, datagramSize, datagramFor, headerSize, laid}
+use Rattle.build.specs.Places.{addressBytes, Fits, placesIn}
 use Rattle.build.specs.Reads.{Plain}
 
 pub record Read (f : Family) (a : Asked) (m : ℕ) (p : List ℕ) : Type 0 where
@@ -35,13 +35,13 @@ pub record Read (f : Family) (a : Asked) (m : ℕ) (p : List ℕ) : Type 0 where
   pub outer : clear (outerRules p)
   pub walk : walkOf p ≡ reached 17 (headerSize f)
   pub addresses : addressesOf p ≡ a .source ++ a .destination
-  pub source : part p (addressesAt p) (Outer·addressSize p) ≡ a .source
-  pub destination : part p (addressesAt p + Outer·addressSize p) (Outer·addressSize p) ≡ a .destination
+  pub source : part p (addressesAt p) (addressSize p) ≡ a .source
+  pub destination : part p (addressesAt p + addressSize p) (addressSize p) ≡ a .destination
   pub lifetime : byteAt p (lifetimeAt p) ≡ a .lifetime
-  pub behind : drop (headerSize f) p ≡ datagramOf a m
+  pub behind : drop (headerSize f) p ≡ datagramFor a m
   pub plain : startOf p ≡ headerSize f → Plain p
 
-pub addresses-long : {f : Family} {a : Asked} → Fits f a → length (a .source ++ a .destination) ≡ addressSize f + addressSize f
+pub addresses-long : {f : Family} {a : Asked} → Fits f a → length (a .source ++ a .destination) ≡ addressBytes f + addressBytes f
 addresses-long {f} {a} s = let x = s .source in let y = s .destination in omega (arith, length-append (a .source) (a .destination))
 
 -- two strings of one size, and what follows them
@@ -58,7 +58,7 @@ module _ (a : Asked) (h m : ℕ) where
 
     long4 : length p4 ≡ 20 + datagramSize a
     unfolding laid
-    long4 = omega (arith, length-append (a .source ++ a .destination) (datagramOf a m), addresses-long s)
+    long4 = omega (arith, length-append (a .source ++ a .destination) (datagramFor a m), addresses-long s)
 
     declared4 : declaredEnd p4 ≡ 20 + datagramSize a
     unfolding declaredEnd laid
@@ -77,11 +77,11 @@ module _ (a : Asked) (h m : ℕ) where
             (refl, (le-ltb (length p4) 20 (omega (arith, long4)), (refl, (le-ltb (wordAt p4 2) 20 (omega arith), (le-ltb (length p4) (declaredEnd p4) (omega (arith, long4, declared4)), tt))))),
           );
           walk = refl;
-          addresses = take-at (a .source ++ a .destination) (datagramOf a m) 8 (addresses-long s);
-          source = first-of 4 (a .source) (a .destination) (datagramOf a m) (s .source);
-          destination = second-of 4 (a .source) (a .destination) (datagramOf a m) (s .source) (s .destination);
+          addresses = take-at (a .source ++ a .destination) (datagramFor a m) 8 (addresses-long s);
+          source = first-of 4 (a .source) (a .destination) (datagramFor a m) (s .source);
+          destination = second-of 4 (a .source) (a .destination) (datagramFor a m) (s .source) (s .destination);
           lifetime = refl;
-          behind = drop-at (a .source ++ a .destination) (datagramOf a m) 8 (addresses-long s);
+          behind = drop-at (a .source ++ a .destination) (datagramFor a m) 8 (addresses-long s);
           plain = λ e. inl (refl, e, refl, refl, refl);
         }
 
@@ -91,7 +91,7 @@ module _ (a : Asked) (h m : ℕ) where
 
     long6 : length p6 ≡ 40 + datagramSize a
     unfolding laid
-    long6 = omega (arith, length-append (a .source ++ a .destination) (datagramOf a m), addresses-long s)
+    long6 = omega (arith, length-append (a .source ++ a .destination) (datagramFor a m), addresses-long s)
 
     declared6 : declaredEnd p6 ≡ 40 + datagramSize a
     unfolding declaredEnd laid
@@ -110,11 +110,11 @@ module _ (a : Asked) (h m : ℕ) where
             (refl, (le-ltb (length p6) 40 (omega (arith, long6)), (refl, (refl, (le-ltb (length p6) (declaredEnd p6) (omega (arith, long6, declared6)), tt))))),
           );
           walk = refl;
-          addresses = take-at (a .source ++ a .destination) (datagramOf a m) 32 (addresses-long s);
-          source = first-of 16 (a .source) (a .destination) (datagramOf a m) (s .source);
-          destination = second-of 16 (a .source) (a .destination) (datagramOf a m) (s .source) (s .destination);
+          addresses = take-at (a .source ++ a .destination) (datagramFor a m) 32 (addresses-long s);
+          source = first-of 16 (a .source) (a .destination) (datagramFor a m) (s .source);
+          destination = second-of 16 (a .source) (a .destination) (datagramFor a m) (s .source) (s .destination);
           lifetime = refl;
-          behind = drop-at (a .source ++ a .destination) (datagramOf a m) 32 (addresses-long s);
+          behind = drop-at (a .source ++ a .destination) (datagramFor a m) 32 (addresses-long s);
           plain = λ e. inr (refl, e, refl, refl);
         }
 
@@ -123,7 +123,7 @@ read Four a h m s = read4 a h m s
 read Six a h m s = read6 a h m s
 
 -- ---- and from that all its places
-plan-is : (f : Family) → planIn f 17 ≡ record { fixed = 8; field = 6; pseudo = true }
+pub plan-is : (f : Family) → planIn f 17 ≡ record { fixed = 8; field = 6; pseudo = true }
 unfolding rowOf
 plan-is Four = refl
 plan-is Six = refl
@@ -142,9 +142,9 @@ module _ {f : Family} {a : Asked} {m : ℕ} {p : List ℕ} (r : Read f a m p) wh
   unfolding protocolOf
   protocol-is = rw (r .walk)
 
-  pub carried-is : carriedOf p ≡ datagramOf a m
+  pub carried-is : carriedOf p ≡ datagramFor a m
   unfolding carriedOf
-  carried-is = rw (start-is, r .declared, r .behind) (take-all (headerSize f + datagramSize a - headerSize f) (datagramOf a m) (omega arith))
+  carried-is = rw (start-is, r .declared, r .behind) (take-all (headerSize f + datagramSize a - headerSize f) (datagramFor a m) (omega arith))
 
   pub end-is : endOf p ≡ headerSize f + datagramSize a
   unfolding endOf saidIn
@@ -162,14 +162,14 @@ module _ {f : Family} {a : Asked} {m : ℕ} {p : List ℕ} (r : Read f a m p) wh
   unfolding pseudo
   pseudo-is = ap₂ (λ g n. planIn g n .pseudo) (r .family) protocol-is ∙ ap (λ (q : Plan). q .pseudo) (plan-is f)
 
-  said-right : (ltb (wordAt (datagramOf a m) 4) 8 || ltb (length (datagramOf a m)) (wordAt (datagramOf a m) 4)) ≡ false
-  said-right = simp (le-ltb (wordAt (datagramOf a m) 4) 8 (omega arith), le-ltb (length (datagramOf a m)) (wordAt (datagramOf a m) 4) (omega arith))
+  said-right : (ltb (wordAt (datagramFor a m) 4) 8 || ltb (length (datagramFor a m)) (wordAt (datagramFor a m) 4)) ≡ false
+  said-right = simp (le-ltb (wordAt (datagramFor a m) 4) 8 (omega arith), le-ltb (length (datagramFor a m)) (wordAt (datagramFor a m) 4) (omega arith))
 
   pub inner-clear : clear (messageRules p)
   unfolding messageRules shapeRules saidIn
   inner-clear =
       rw (r .family, protocol-is, carried-is, plan-is f)
-      (covered-is f, (le-ltb (length (datagramOf a m)) 8 (omega arith), (said-right, tt)))
+      (covered-is f, (le-ltb (length (datagramFor a m)) 8 (omega arith), (said-right, tt)))
 
   pub holds : Holds p (placesIn f (length (a .body)))
   holds = record {
@@ -178,19 +178,19 @@ module _ {f : Family} {a : Asked} {m : ℕ} {p : List ℕ} (r : Read f a m p) wh
     inner = inner-clear;
   }
 
-  pub bytes-is : messageBytes p ≡ datagramOf a m
-  bytes-is = rw (start-is, end-is, r .behind) (take-all (headerSize f + datagramSize a - headerSize f) (datagramOf a m) (omega arith))
+  pub bytes-is : messageBytes p ≡ datagramFor a m
+  bytes-is = rw (start-is, end-is, r .behind) (take-all (headerSize f + datagramSize a - headerSize f) (datagramFor a m) (omega arith))
 
-  pub total-is : messageTotal p ≡ total (coveredIn f 17 (a .source ++ a .destination) (datagramOf a m))
+  pub total-is : messageTotal p ≡ total (coveredIn f 17 (a .source ++ a .destination) (datagramFor a m))
   unfolding messageTotal
   total-is = rw (r .family, protocol-is, r .addresses, bytes-is)
 
   pub silent-is : silentOf p ≡ eqb m 0
   unfolding silentOf
-  silent-is = rw (r .family, protocol-is, bytes-is, plan-is f) (ap (λ w. eqb w 0) (let e : wordAt (datagramOf a m) 6 ≡ m = omega arith in e))
+  silent-is = rw (r .family, protocol-is, bytes-is, plan-is f) (ap (λ w. eqb w 0) (let e : wordAt (datagramFor a m) 6 ≡ m = omega arith in e))
 
   -- ports and body
-  word-is : (i : ℕ) → i + 1 < datagramSize a → wordAt p (startOf p + i) ≡ wordAt (datagramOf a m) i
+  word-is : (i : ℕ) → i + 1 < datagramSize a → wordAt p (startOf p + i) ≡ wordAt (datagramFor a m) i
   word-is i h = sym (part-word p (startOf p) (lengthOf p) i (omega (arith, start-is, end-is))) ∙ ap (λ xs. wordAt xs i) bytes-is
 
   pub source-port-is : wordAt p (startOf p) ≡ a .sourcePort

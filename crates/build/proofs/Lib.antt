@@ -4,3 +4,4 @@ pub mod Summed
 pub mod Steps
 pub mod Answers
 pub mod Promised
+pub mod Only

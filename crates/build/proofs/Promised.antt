@@ -1,14 +1,15 @@
 -- What is promised of a packet that is built.
 use mathlib.Core.Path.{_≡_, refl, sym, ap, subst, _∙_}
-use mathlib.Core.Logic.{_↔_, _≢_, inl, inr, ⊎-elim}
-use Prim.Native.Nat.{ℕ, _≤_}
+use mathlib.Core.Logic.{_↔_, _⊎_, _≢_, inl, inr, ⊎-elim}
+use Prim.Native.Nat.{ℕ, _+_, _<_, _≤_}
 use native.Mathlib.Omega.{arith}
 use mathlib.Core.List.{List, _++_}
 use mathlib.Core.Bool.{true, false, _&&_, _||_}
 use lib.ListN.{length, take, drop}
-use lib.Dec.{eqb}
+use lib.Dec.{ltb, eqb}
 use lib.Seq.{take-at}
-use borrow.Author.Tests.{ltb-false, eqb-false}
+use borrow.Author.Tests.{ltb-false, eqb-true, eqb-false}
+use Rattle.verdicts.proofs.Tests.{by-cases}
 use Rattle.verdicts.specs.Rules.{Rule, verdictBy, clear, Comes}
 use Rattle.verdicts.specs.declared.Verdict.{Verdict}
 use Rattle.verdicts.specs.declared.Verdict.the-variants.{Good, Unsummed}
@@ -16,10 +17,10 @@ use Rattle.verdicts.specs.Choice.{if_then_else_}
 use Rattle.verdicts.proofs.Rules.{first-map, first-either, clear-join}
 use Rattle.verdicts.proofs.Calls.{Refusals, verdict-clear, call-done}
 use Rattle.verdicts.proofs.Telling.{Tells, Told, not-tells, or-tells, eqb-tells, ltb-tells, as-tells, next, told-exactly}
-use Rattle.wire.specs.Bytes.{byteAt, put, putWord}
+use Rattle.wire.specs.Bytes.{byteAt, put}
 use Rattle.wire.specs.Outer.{four, outerRules}
 use Rattle.wire.specs.Walk.{refusals, walkOf, walkRules}
-use Rattle.wire.specs.Inner.{fieldAt, silentOf, messageRules, wholeRules}
+use Rattle.wire.specs.Inner.{silentOf, messageRules, wholeRules}
 use Rattle.wire.specs.declared.Family.{Family}
 use Rattle.wire.proofs.Writes.{Wrote, put-wrote}
 use Rattle.judge.specs.Judge.{judgeOf}
@@ -28,13 +29,12 @@ use Rattle.mend.specs.Fresh.{freshHeader, freshMessage}
 use Rattle.mend.specs.Mend.{mendedHeader, mendedMessage, mendOf}
 use Rattle.mend.proofs.Numbers.{sent-some}
 use Rattle.mend.proofs.Mending.{mended-judged}
-use Rattle.build.specs.Layout.{Asked, familyFor, laid, packetOf, sizeOf}
-use Rattle.build.specs.Places.{asked}
+use Rattle.build.specs.Layout.{Asked, asked, familyFor, laid, packetOf, sizeOf}
 use Rattle.build.specs.Build.{neither, unfit, buildRules, refusal, done, builtOf}
 use Rattle.build.specs.Reads.{Builds, Reads, Plain, buildCases}
 use Rattle.build.specs.declared.Built.{Built}
 use Rattle.build.proofs.Laid.{Read, read, start-is, protocol-is, end-is, inner-clear, silent-is, source-port-is, destination-port-is, data-is}
-use Rattle.build.proofs.Summed.{mended-header-is, fresh-message-is, message-set}
+use Rattle.build.proofs.Summed.{fresh-message-is, laid-mended}
 use Rattle.build.proofs.Steps.{put-first}
 use Rattle.build.proofs.Answers.{misfit, fits, packet-long, at-good}
 
@@ -64,10 +64,8 @@ module _ (a : Asked) (u : misfit a ≡ false) where
   summed = silent-is read-packet ∙ ap (λ w. eqb w 0) (fresh-message-is a 0 0 (fits a u)) ∙ sent-some true _
 
   stands : mendedMessage (mendedHeader p) ≡ p
-  unfolding mendedMessage packetOf
-  stands = ap mendedMessage (mended-header-is f a (freshHeader blank) (freshMessage blank) (fits a u))
-      ∙ ap (λ s. if s && four p then p else putWord p (fieldAt p) (freshMessage p)) summed
-      ∙ message-set f a (freshHeader blank) (freshMessage blank) (fits a u)
+  unfolding packetOf
+  stands = laid-mended f a (freshHeader blank) (freshMessage blank) (fits a u) summed
 
   mended : mendOf p ≡ (Good, p)
   unfolding mendOf
@@ -118,15 +116,33 @@ module _ (a : Asked) (buffer : List ℕ) where
       (λ v n. (refl, refl))
       (λ c n. absurd (n refl))
 
+  -- the packet's size, by the source's
+  size4 : length (a .source) ≡ 4 → sizeOf a ≡ 28 + length (a .body)
+  size4 e = rw e (omega arith)
+
+  size6 : length (a .source) ≡ 16 → sizeOf a ≡ 48 + length (a .body)
+  size6 e = rw e (omega arith)
+
+  abbrev Small : ℕ → Type 0
+  Small room = ((length (a .source) ≡ 4) × (room < 28 + length (a .body))) ⊎ ((length (a .source) ≡ 16) × (room < 48 + length (a .body)))
+
+  small-tells : (room : ℕ) → misfit a ≡ false → Tells (ltb room (sizeOf a)) (Small room)
+  small-tells room u =
+      as-tells (ltb-tells room (sizeOf a))
+      (λ h. by-cases (eqb (length (a .source)) 4)
+      (λ t. let e = eqb-true (length (a .source)) 4 t in inl (e, omega (arith, size4 e)))
+      (λ t. let e : length (a .source) ≡ 16 = simp t at (fits a u .source) in inr (e, omega (arith, size6 e))))
+      (⊎-elim (λ h. omega (arith, size4 (h .0))) (λ h. omega (arith, size6 (h .0))))
+
   told : Told rules (buildCases a (length buffer))
   unfolding buildRules unfit
   told =
       let s = length (a .source) in
       let d = length (a .destination) in
       next (or-tells _ _ (neither-tells s) (or-tells _ _ (neither-tells d) (or-tells _ _ (not-tells (eqb s d) (eqb-tells s d)) (ltb-tells 1400 (length (a .body))))), refl)
-      (λ u. next (eqb-tells (a .lifetime) 0, refl) (λ z. next (ltb-tells (length buffer) (sizeOf a), refl) (λ l. tt)))
+      (λ u. next (eqb-tells (a .lifetime) 0, refl) (λ z. next (small-tells (length buffer) u, refl) (λ l. tt)))
 
-  -- the verdict is that of the first of the ticket's conditions that holds
+  -- the verdict is that of the first of the request's conditions that holds
   pub build-exactly : (v : Verdict) → (builtOf a buffer .0 .verdict ≡ v) ↔ Comes (buildCases a (length buffer)) v
   build-exactly v = rw answers (told-exactly rules (buildCases a (length buffer)) told v)
 
@@ -134,7 +150,7 @@ module _ (a : Asked) (buffer : List ℕ) where
     none : clear rules
     none = verdict-clear rules refusing (sym answers ∙ ap (λ (x : Built × List ℕ). x .0 .verdict) e)
 
-    fit : misfit a ≡ false
+    pub fit : misfit a ≡ false
     unfolding buildRules
     fit = none .0
 
@@ -152,7 +168,7 @@ module _ (a : Asked) (buffer : List ℕ) where
     after : q ≡ packetOf a ++ drop n buffer
     after = rw size (sym (ap (λ (x : Built × List ℕ). x .1) left))
 
-    is : take n q ≡ packetOf a
+    pub is : take n q ≡ packetOf a
     is = rw after (take-at (packetOf a) (drop n buffer) n (packet-long a fit ∙ sym size))
 
     pub built-good : (judgeOf (take n q) ≡ Good) × (judgeOf q ≡ Good)

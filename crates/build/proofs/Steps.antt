@@ -7,7 +7,7 @@ use lib.ListN.{length, drop, length-append}
 use Rattle.wire.specs.Bytes.{put}
 use Rattle.wire.proofs.Writes.{put-append}
 use Rattle.wire.specs.declared.Family.{Family}
-use Rattle.build.specs.Layout.{header4, header6, headerIn, datagram, Asked, headerSize, datagramSize, headerOf, datagramOf, laid}
+use Rattle.build.specs.Layout.{header4, header6, headerIn, datagram, Asked, headerSize, datagramSize, headerFor, datagramFor, laid}
 use Rattle.wire.specs.Inner.{Holds}
 use Rattle.wire.specs.declared.Family.the-variants.{Four, Six}
 use Rattle.wire.specs.declared.Message.{Message}
@@ -78,14 +78,14 @@ put-all : (p xs : List ℕ) → length xs ≡ length p → put p 0 xs ≡ xs
 put-all p xs e = put-first p xs (omega arith) ∙ rw (e, drop-length p) (append-nil xs)
 
 pub laid-out : (f : Family) (a : Asked) (p q r : List ℕ) → Fits f a → length p ≡ headerSize f + datagramSize a
-    → q ≡ headerLeft f p (a .source) (a .destination) (a .lifetime) → r ≡ put q (headerSize f) (datagramOf a 0) → r ≡ laid f a 0 0
+    → q ≡ headerLeft f p (a .source) (a .destination) (a .lifetime) → r ≡ put q (headerSize f) (datagramFor a 0) → r ≡ laid f a 0 0
 unfolding laid
 laid-out f a p q r s l e g =
     let n : length p - headerSize f ≡ datagramSize a = omega arith in
-    let x : q ≡ put p 0 (headerOf f a 0) = e ∙ ap (λ k. put p 0 (headerIn f k (a .lifetime) (a .source) (a .destination) 0)) n in
+    let x : q ≡ put p 0 (headerFor f a 0) = e ∙ ap (λ k. put p 0 (headerIn f k (a .lifetime) (a .source) (a .destination) 0)) n in
     let k = header-long a 0 0 f s in
-    let whole = length-append (headerOf f a 0) (datagramOf a 0) in
-    behind p 0 (headerSize f) (headerOf f a 0) (datagramOf a 0) x g (omega arith) ∙ put-all p (headerOf f a 0 ++ datagramOf a 0) (omega arith)
+    let whole = length-append (headerFor f a 0) (datagramFor a 0) in
+    behind p 0 (headerSize f) (headerFor f a 0) (datagramFor a 0) x g (omega arith) ∙ put-all p (headerFor f a 0 ++ datagramFor a 0) (omega arith)
 
 -- ---- which addresses fit
 module _ (s d b : ℕ) (n : neither s ≡ false) where

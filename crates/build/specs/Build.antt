@@ -11,13 +11,15 @@ use Rattle.wire.specs.Bytes.{put}
 use Rattle.build.specs.Layout.{Asked, packetOf, sizeOf}
 use Rattle.build.specs.declared.Built.{Built}
 
--- an address has the size of neither family, the two differ in size, or the body is over 1,400 bytes
+-- an address of so many bytes is of neither family
 abbrev pub neither : ℕ → Bool
 neither size = not (eqb size 4 || eqb size 16)
 
+-- an address has the wrong size, the two sizes differ, or the body passes 1,400 bytes
 unfoldable pub unfit : (source destination body : ℕ) → Bool
 unfit source destination body = neither source || (neither destination || (not (eqb source destination) || ltb 1400 body))
 
+-- place; spent, if the lifetime is 0; room, if the buffer is too small
 unfoldable pub buildRules : Asked → (room : ℕ) → List Rule
 buildRules a room =
     (unfit (length (a .source)) (length (a .destination)) (length (a .body)) ⇒ Place)
@@ -29,6 +31,7 @@ buildRules a room =
 abbrev pub refusal : Verdict → Built
 refusal v = record { verdict = v; length = 0 }
 
+-- beside a packet it is the packet's
 abbrev pub done : ℕ → Built
 done size = record { verdict = Good; length = size }
 

@@ -28,7 +28,7 @@ datagram source destination body checksum =
     word source ++ (word destination ++ (word (8 + length body) ++ (word checksum ++ body)))
 
 -- ---- the packet
--- what is asked for
+-- what is asked for, and the same in the order of the function's parameters
 pub record Asked : Type 0 where
   pub source : List ℕ
   pub destination : List ℕ
@@ -37,10 +37,21 @@ pub record Asked : Type 0 where
   pub lifetime : ℕ
   pub body : List ℕ
 
+abbrev pub asked : (source destination : List ℕ) (sourcePort destinationPort lifetime : ℕ) (body : List ℕ) → Asked
+asked source destination sourcePort destinationPort lifetime body = record {
+  source = source;
+  destination = destination;
+  sourcePort = sourcePort;
+  destinationPort = destinationPort;
+  lifetime = lifetime;
+  body = body;
+}
+
 -- the family, by the source's size
 abbrev pub familyFor : List ℕ → Family
 familyFor source = if eqb (length source) 4 then Four else Six
 
+-- its header's size, the datagram's, and the packet's
 abbrev pub headerSize : Family → ℕ
 headerSize Four = 20
 headerSize Six = 40
@@ -48,22 +59,26 @@ headerSize Six = 40
 abbrev pub datagramSize : Asked → ℕ
 datagramSize a = 8 + length (a .body)
 
--- the header of either family
+abbrev pub sizeOf : Asked → ℕ
+sizeOf a = headerSize (familyFor (a .source)) + datagramSize a
+
+-- its header, with a word in the field; IPv6 has none
 abbrev pub headerIn : Family → (size lifetime : ℕ) (source destination : List ℕ) (checksum : ℕ) → List ℕ
 headerIn Four size lifetime source destination checksum = header4 size lifetime source destination checksum
 headerIn Six size lifetime source destination checksum = header6 size lifetime source destination
 
--- the datagram behind its header, with these words in the two sum fields, of which IPv6 has the second alone
-abbrev pub headerOf : Family → Asked → (checksum : ℕ) → List ℕ
-headerOf family a checksum = headerIn family (datagramSize a) (a .lifetime) (a .source) (a .destination) checksum
+abbrev pub headerFor : Family → Asked → (checksum : ℕ) → List ℕ
+headerFor family a checksum = headerIn family (datagramSize a) (a .lifetime) (a .source) (a .destination) checksum
 
-abbrev pub datagramOf : Asked → (checksum : ℕ) → List ℕ
-datagramOf a checksum = datagram (a .sourcePort) (a .destinationPort) (a .body) checksum
+-- the datagram, with a word in its field
+abbrev pub datagramFor : Asked → (checksum : ℕ) → List ℕ
+datagramFor a checksum = datagram (a .sourcePort) (a .destinationPort) (a .body) checksum
 
+-- one behind the other, with these two words in the fields
 unfoldable pub laid : Family → Asked → (header message : ℕ) → List ℕ
-laid family a header message = headerOf family a header ++ datagramOf a message
+laid family a header message = headerFor family a header ++ datagramFor a message
 
--- with the words that mending works out, both fields being read as 0000
+-- with the words that mending works out, both fields being read as 0000; the first is nowhere in IPv6
 abbrev pub packetIn : Family → Asked → List ℕ
 packetIn family a =
     let blank = laid family a 0 0 in
@@ -71,6 +86,3 @@ packetIn family a =
 
 unfoldable pub packetOf : Asked → List ℕ
 packetOf a = packetIn (familyFor (a .source)) a
-
-abbrev pub sizeOf : Asked → ℕ
-sizeOf a = headerSize (familyFor (a .source)) + datagramSize a

@@ -10,14 +10,15 @@ use Rattle.wire.specs.declared.Message.{Message}
 use Rattle.wire.specs.Bytes.{put}
 use Rattle.build.specs.Layout.{Asked, headerSize, headerIn}
 
-abbrev pub addressSize : Family → ℕ
-addressSize Four = 4
-addressSize Six = 16
+-- an address's size
+abbrev pub addressBytes : Family → ℕ
+addressBytes Four = 4
+addressBytes Six = 16
 
 -- both addresses are of that size, and the body is short enough for 16-bit lengths
 pub record Fits (family : Family) (a : Asked) : Type 0 where
-  pub source : length (a .source) ≡ addressSize family
-  pub destination : length (a .destination) ≡ addressSize family
+  pub source : length (a .source) ≡ addressBytes family
+  pub destination : length (a .destination) ≡ addressBytes family
   pub body : length (a .body) ≤ 1400
 
 -- where a datagram with so long a body stands, behind a header of so many bytes, and behind the family's
@@ -37,22 +38,11 @@ placesIn family body = placesAt family (headerSize family) body
 
 -- what laying out a header asks: addresses of the family's size, and a packet as long as the whole is to be
 pub record Lays (family : Family) (s d packet : List ℕ) : Type 0 where
-  pub source : length s ≡ addressSize family
-  pub destination : length d ≡ addressSize family
+  pub source : length s ≡ addressBytes family
+  pub destination : length d ≡ addressBytes family
   pub room : headerSize family ≤ length packet
   pub short : length packet ≤ 65535
 
 -- and leaves: the header in its first bytes, with a field of 0000
 abbrev pub headerLeft : Family → (packet source destination : List ℕ) (lifetime : ℕ) → List ℕ
 headerLeft family packet source destination lifetime = put packet 0 (headerIn family (length packet - headerSize family) lifetime source destination 0)
-
--- in the order of the function's parameters
-abbrev pub asked : (source destination : List ℕ) (sourcePort destinationPort lifetime : ℕ) (body : List ℕ) → Asked
-asked source destination sourcePort destinationPort lifetime body = record {
-  source = source;
-  destination = destination;
-  sourcePort = sourcePort;
-  destinationPort = destinationPort;
-  lifetime = lifetime;
-  body = body;
-}

@@ -14,9 +14,9 @@ ghost use Rattle.wire.specs.Bytes.{put};
 ghost use Rattle.wire.specs.Inner.{Holds};
 ghost use Rattle.cover.specs.Sums.{messageTotal};
 ghost use Rattle.mend.specs.Fresh.{sent};
-ghost use Rattle.build.specs.Layout.{datagram as Layout·datagram, familyFor, headerSize, packetIn};
+ghost use Rattle.build.specs.Layout.{asked, datagram as Layout·datagram, familyFor, headerSize, packetIn};
 ghost use Rattle.build.specs.Build.{neither as Build·neither, unfit as Build·unfit, refusal, builtOf};
-ghost use Rattle.build.specs.Places.{Fits, placesIn, Lays, headerLeft, asked};
+ghost use Rattle.build.specs.Places.{Fits, placesIn, Lays, headerLeft};
 
 // How long a body may be.
 const MOST: usize = 1400;

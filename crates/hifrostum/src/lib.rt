@@ -20,8 +20,8 @@ ghost use Rattle.mend.specs.Mend.{mendOf};
 ghost use Rattle.kept.specs.Edits.{lifetimeOf, addressOf, stretchOf};
 ghost use Rattle.kept.specs.Prefix.{prefixOf};
 ghost use Rattle.capture.specs.Judged.{judgedOf};
+ghost use Rattle.build.specs.Layout.{asked};
 ghost use Rattle.build.specs.Build.{builtOf};
-ghost use Rattle.build.specs.Places.{asked};
 ghost use Rattle.hifrostum.specs.Answers.{numbered, counted, summed, built as Answers·built};
 
 // The verdict on a packet.

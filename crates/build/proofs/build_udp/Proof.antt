@@ -6,8 +6,7 @@ use mathlib.Core.List.{List}
 use mathlib.Core.Bool.{false}
 use denote.Ref.{now}
 use Rattle.wire.specs.declared.Message.{Message}
-use Rattle.build.specs.Layout.{Asked}
-use Rattle.build.specs.Places.{asked}
+use Rattle.build.specs.Layout.{Asked, asked}
 use Rattle.build.specs.declared.Built.{Built}
 use Rattle.build.proofs.Answers.{misfit, at-place, at-spent, at-room, asks-fill, filled-good, fits}
 use borrow.Author.Needs.{needs}

@@ -11,8 +11,7 @@ use Rattle.wire.specs.declared.Message.{Message}
 use Rattle.mend.specs.Fresh.{freshHeader}
 use Rattle.mend.specs.Mend.{mendedHeader}
 use Rattle.wire.specs.Bytes.{put}
-use Rattle.build.specs.Layout.{Asked, headerSize, datagramOf, laid}
-use Rattle.build.specs.Places.{asked}
+use Rattle.build.specs.Layout.{Asked, asked, headerSize, datagramFor, laid}
 use Rattle.build.proofs.Summed.{mended-header-is, filled}
 use Rattle.build.proofs.Steps.{laid-out, lays, held}
 use borrow.Author.Needs.{needs}
@@ -41,7 +40,7 @@ blank c =
     let one = c .before .before .before .before in
     let b = one .before .before .before .before .before .before in
     laid-out (family b) (wanted b) (now (b .args .packet)) (one .lay-header .last .0) (c .lay-datagram .last .0) (b .pre .0) (long b) (one .lay-header .ensures)
-    (c .lay-datagram .ensures ∙ ap (λ n. put (one .lay-header .last .0) n (datagramOf (wanted b) 0)) (start b))
+    (c .lay-datagram .ensures ∙ ap (λ n. put (one .lay-header .last .0) n (datagramFor (wanted b) 0)) (start b))
 
 lay-datagram-requires : tie.Need-lay-datagram-requires
 lay-datagram-requires c κs =
