@@ -5,3 +5,4 @@ pub mod Steps
 pub mod Answers
 pub mod Promised
 pub mod Only
+pub mod Examples

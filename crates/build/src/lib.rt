@@ -5,6 +5,7 @@
 use verdicts::Verdict;
 use wire::Family;
 use wire::Message;
+use wire::UDP_HEADER;
 ghost use mathlib.Core.Path.{_≡_};
 ghost use mathlib.Core.Bool.{true};
 ghost use Prim.Native.Nat.{_+_, _/_, _%_, _≤_};
@@ -20,11 +21,6 @@ ghost use Rattle.build.specs.Places.{Fits, placesIn, Lays, headerLeft};
 
 // How long a body may be.
 const MOST: usize = 1400;
-
-// UDP's header, and the field in it.
-const UDP_HEADER: usize = 8;
-
-const UDP_FIELD: usize = 6;
 
 // The verdict, good, place, spent or room, and how many bytes the packet has: 0 beside a refusal.
 pub struct Built {
@@ -124,7 +120,7 @@ fn behind(family: Family, header: usize, body: usize) -> Message
         pseudo: true,
         start: header,
         end: header + (UDP_HEADER + body),
-        field: header + UDP_FIELD,
+        field: header + wire::UDP_FIELD,
         body: header + UDP_HEADER,
     }
 }

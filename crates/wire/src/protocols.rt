@@ -16,6 +16,11 @@ pub const DATA_OFFSET: usize = 12;
 
 pub const UDP_LENGTH: usize = 4;
 
+// The field in UDP's header, and where that ends.
+pub const UDP_FIELD: usize = 6;
+
+pub const UDP_HEADER: usize = 8;
+
 // ICMP and ICMPv6 say no length of their own: the packet is asked for by the contract alone.
 pub fn icmp(packet: &[u8], c: Carried, protocol: u8, plan: Plan) -> Part
     requires { ⌜ Carrying (now packet) c protocol plan ⌝ }
