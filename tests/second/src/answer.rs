@@ -1,5 +1,6 @@
 // The case format (CASES.md) and the answer to each case.
 
+use crate::build::{build_udp, Parts};
 use crate::capture::{judge_capture, printed};
 use crate::edit::{lower_lifetime, set_address, set_stretch};
 use crate::fragments::{judge_fragments, Record};
@@ -25,13 +26,14 @@ pub const JOIN: u8 = 11;
 pub const PRINTED: u8 = 12;
 pub const PREFIX: u8 = 13;
 pub const FRAGMENTS: u8 = 14;
+pub const BUILD: u8 = 15;
 
 /// The operations' names, by number.
 #[rustfmt::skip]
-pub const OPERATIONS: [&str; 15] = [
+pub const OPERATIONS: [&str; 16] = [
     "judge", "mend", "lower lifetime", "set address", "set stretch", "judge capture", "chain", "partial sum",
     "fold at a position", "field", "update", "join", "printed lines", "exchange prefix",
-    "judge fragments",
+    "judge fragments", "build",
 ];
 
 /// Payload one is the buffer.
@@ -49,6 +51,8 @@ pub const NUMBER: usize = 4;
 pub const SUM: usize = 10;
 /// The size of a record in the payload of fragments: offset and length.
 pub const LISTED: usize = 16;
+/// The largest size of an address in a build: sizes have 12 bits.
+pub const LARGEST_ADDRESS: u64 = 4_095;
 pub const FILL: u8 = 0xA5;
 pub const BAD_CASE: &str = "bad case\n";
 
@@ -89,7 +93,7 @@ impl Case {
         }
         let (operation, source, number) = (head[0], head[1], whole(&head[2..10]));
         let (size_one, size_two) = (whole(&head[10..14]) as usize, whole(&head[14..18]) as usize);
-        let unknown = operation > FRAGMENTS || source > AGAIN;
+        let unknown = operation > BUILD || source > AGAIN;
         let too_large = size_one > LARGEST || size_two > LARGEST || (operation == CAPTURE && number > LARGEST as u64);
         let uneven = match operation {
             CHAIN => size_two % NUMBER != 0,
@@ -98,7 +102,8 @@ impl Case {
         };
         let not_two = operation == JOIN && size_two != 2 * SUM;
         let no_prefix = operation == PREFIX && expected_size(number) > size_two;
-        if unknown || too_large || uneven || not_two || no_prefix {
+        let no_addresses = operation == BUILD && source_size(number) + destination_size(number) > size_two;
+        if unknown || too_large || uneven || not_two || no_prefix || no_addresses {
             return Ok(Next::Bad);
         }
         let (one, two) = (take(input, size_one)?, take(input, size_two)?);
@@ -119,6 +124,33 @@ impl Case {
         let record = |bytes: &[u8]| Record { offset: whole(&bytes[..8]), length: whole(&bytes[8..]) };
         self.two.chunks(LISTED).map(record).collect()
     }
+
+    /// Of a build what the packet is built from.
+    pub fn parts(&self) -> Parts<'_> {
+        let (source, rest) = self.two.split_at(source_size(self.number));
+        let (destination, body) = rest.split_at(destination_size(self.number));
+        let [a, b, c, d, lifetime, ..] = self.number.to_be_bytes();
+        let [source_port, destination_port] = [[a, b], [c, d]].map(u16::from_be_bytes);
+        Parts { source, destination, source_port, destination_port, lifetime, body }
+    }
+}
+
+/// The number and payload two of a build.
+pub fn build_payload(parts: &Parts) -> (u64, Vec<u8>) {
+    let sizes = (parts.source.len() << 12 | parts.destination.len()) as u64;
+    let ports = u64::from(parts.source_port) << 48 | u64::from(parts.destination_port) << 32;
+    let two = [parts.source, parts.destination, parts.body].concat();
+    (ports | u64::from(parts.lifetime) << 24 | sizes, two)
+}
+
+/// The size of the source, by the number of a build.
+fn source_size(number: u64) -> usize {
+    (number >> 12 & LARGEST_ADDRESS) as usize
+}
+
+/// The size of the destination, by the number of a build.
+fn destination_size(number: u64) -> usize {
+    (number & LARGEST_ADDRESS) as usize
 }
 
 /// Payload two of fragments.
@@ -204,6 +236,7 @@ impl Desk {
                 self.edited(|packet| exchange_prefix(packet, side, expected, new))
             }
             FRAGMENTS => format!("{}\n", judge_fragments(&self.buffer, &case.list())),
+            BUILD => self.built(&case.parts()),
             _ => printed(&self.buffer),
         }
     }
@@ -211,6 +244,11 @@ impl Desk {
     fn edited(&mut self, edit: impl Fn(&mut [u8]) -> Verdict) -> String {
         let verdict = edit(&mut self.buffer);
         format!("{verdict} {}\n", digest(&self.buffer))
+    }
+
+    fn built(&mut self, parts: &Parts) -> String {
+        let (verdict, length) = build_udp(parts, &mut self.buffer);
+        format!("{verdict} {length} {}\n", digest(&self.buffer))
     }
 
     fn capture(&self, places: usize) -> String {

@@ -1,6 +1,7 @@
 // The generator: the stored cases, whose coverage is checked, and fresh random ones without end.
 
 pub mod between;
+pub mod build;
 mod captures;
 mod corners;
 pub mod fragments;
@@ -114,6 +115,8 @@ pub fn stored(seed: u64) -> Result<(Vec<u8>, u64), String> {
     (maker.shapes, maker.calls) = (Shape::any, Calls::Prefix);
     maker.prefixes();
     maker.fragment_lists();
+    maker.calls = Calls::All;
+    maker.builds();
     if let Some(cover) = &maker.cover {
         cover.check()?;
     }
@@ -124,7 +127,7 @@ pub fn stored(seed: u64) -> Result<(Vec<u8>, u64), String> {
 pub fn fuzz(seed: u64, count: u64, out: &mut impl Write) -> io::Result<()> {
     let mut maker = Maker::new(seed, None);
     while maker.count < count {
-        match maker.random.between(1, 107) {
+        match maker.random.between(1, 121) {
             1 => maker.any_corner(),
             2 => maker.any_blank(),
             3..=7 => maker.any_sums(),
@@ -141,6 +144,8 @@ pub fn fuzz(seed: u64, count: u64, out: &mut impl Write) -> io::Result<()> {
             67..=80 => maker.any_prefixes(),
             81..=93 => (0..5).for_each(|_| maker.any_fragments()),
             94..=95 => maker.any_long_fragments(),
+            96..=107 => (0..8).for_each(|_| maker.any_build()),
+            108..=109 => (0..2).for_each(|_| maker.any_long_build()),
             _ => maker.any_faults(),
         }
         out.write_all(&maker.bytes)?;

@@ -1,6 +1,7 @@
 // What the stored cases must reach, and the check that they do. Each thing reached is a line of plain words.
 
 mod between;
+mod build;
 mod fragments;
 mod lifetimes;
 mod prefix;
@@ -22,8 +23,8 @@ use std::collections::BTreeSet;
 #[derive(Default)]
 pub struct Cover {
     /// The verdicts of each operation, what an edit makes of the fields that it updates and of the verdict, what the
-    /// lifetime edit changes, what lies behind a datagram, what stops the walk, what a prefix exchange leaves, and
-    /// why fragments are refused; these must be those the paper makes possible, and no others.
+    /// lifetime edit changes, what lies behind a datagram, what stops the walk, what a prefix exchange leaves, why
+    /// fragments are refused, and what is built; these must be those the paper makes possible, and no others.
     exact: BTreeSet<String>,
     /// All else that was reached; there may be more than is wanted.
     reached: BTreeSet<String>,
@@ -46,6 +47,7 @@ impl Cover {
             UPDATE => self.note_update(case, answer),
             JOIN => self.note_join(case, answer),
             FRAGMENTS => self.note_fragments(case, before, first.unwrap_or(u8::MAX)),
+            BUILD => self.note_build(case, before, after, answer),
             _ => self.reach(format!("{} of {} bytes", OPERATIONS[case.operation as usize], before.len())),
         }
     }
@@ -479,6 +481,7 @@ fn wanted_exactly() -> BTreeSet<String> {
     wanted.extend(between::wanted_exactly());
     wanted.extend(prefix::wanted_exactly());
     wanted.extend(fragments::wanted_exactly());
+    wanted.extend(build::wanted_exactly());
     for operation in [ADDRESS, STRETCH] {
         let name = OPERATIONS[operation as usize];
         for (family, verdicts) in [(4, &[GOOD, UNSUMMED, HEADER_SUM, MESSAGE_SUM][..]), (6, &[GOOD, MESSAGE_SUM])] {
@@ -525,6 +528,7 @@ fn wanted_else() -> BTreeSet<String> {
     wanted.extend(between::wanted());
     wanted.extend(prefix::wanted());
     wanted.extend(fragments::wanted());
+    wanted.extend(build::wanted());
     wanted.extend(wanted_captures());
     wanted.extend(wanted_sums());
     wanted

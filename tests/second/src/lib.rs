@@ -4,6 +4,7 @@
 pub mod answer;
 pub mod between;
 pub mod blocks;
+pub mod build;
 pub mod capture;
 pub mod cases;
 pub mod cover;

@@ -1,7 +1,8 @@
 // Mistakes about where a UDP datagram ends, and about the headers between. They lead to other sums, which the cases
-// must tell from the right one. Those about fragments are in mistakes/fragments.rs, those about the prefix exchange in
-// mistakes/prefix.rs.
+// must tell from the right one. Those about building are in mistakes/build.rs, those about fragments in
+// mistakes/fragments.rs, those about the prefix exchange in mistakes/prefix.rs.
 
+pub mod build;
 pub mod fragments;
 pub mod prefix;
 

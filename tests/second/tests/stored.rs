@@ -1,11 +1,13 @@
 // The stored cases and answers are those of seed 1; the case format is read as CASES.md says.
 
-use second::answer::{digest, exchange_payload, list_payload, Case, Desk, Next};
-use second::answer::{ADDRESS, FRAGMENTS, JUDGE, LEFT, LIFETIME, MEND, PREFIX, STRETCH};
+use second::answer::{build_payload, digest, exchange_payload, list_payload, Case, Desk, Next};
+use second::answer::{ADDRESS, BUILD, FRAGMENTS, JUDGE, LEFT, LIFETIME, MEND, PREFIX, STRETCH};
+use second::build::{Parts, MOST};
 use second::cases;
 use second::cases::prefixes::CORNER_WORDS;
 use second::fragments::Record;
 use second::judge::{first, judge};
+use second::mistakes::build::{Asked as AskedToBuild, BUILD_MISTAKES};
 use second::mistakes::fragments::FRAGMENT_MISTAKES;
 use second::mistakes::prefix::{Asked, PREFIX_MISTAKES};
 use second::mistakes::{at_40, BETWEEN_MISTAKES, MISTAKES};
@@ -240,7 +242,7 @@ fn fuzz_reaches_prefixes() {
 #[test]
 fn fuzz_reaches_fragments() {
     let mut bytes = Vec::new();
-    cases::fuzz(9, 120_000, &mut bytes).unwrap();
+    cases::fuzz(9, 180_000, &mut bytes).unwrap();
     let (mut input, mut desk) = (&bytes[..], Desk::default());
     let (mut verdicts, mut counts, mut long) = (BTreeMap::new(), BTreeMap::new(), 0);
     let mut told = [0; FRAGMENT_MISTAKES.len()];
@@ -266,6 +268,45 @@ fn fuzz_reaches_fragments() {
     assert!(rare.is_empty(), "{rare:?}");
 }
 
+/// Every verdict on builds of each family; bodies that are long, and sums that compute to 0000; and outcomes that each
+/// mistake makes otherwise.
+#[test]
+fn fuzz_reaches_builds() {
+    let mut bytes = Vec::new();
+    cases::fuzz(9, 120_000, &mut bytes).unwrap();
+    let (mut input, mut desk, mut told) = (&bytes[..], Desk::default(), [0; BUILD_MISTAKES.len()]);
+    let (mut verdicts, mut zeros, mut long) = (BTreeMap::new(), BTreeMap::new(), BTreeMap::new());
+    while let Next::Case(case) = Case::read(&mut input).unwrap() {
+        desk.lay(&case);
+        let before = desk.buffer.clone();
+        let answer = desk.answer(&case);
+        if case.operation != BUILD {
+            continue;
+        }
+        let numbers: Vec<usize> = answer.split_whitespace().map(|word| word.parse().unwrap()).collect();
+        let (parts, verdict) = (case.parts(), numbers[0] as u8);
+        *verdicts.entry((parts.family(), verdict)).or_insert(0) += 1;
+        if verdict == 0 && parts.computed_sum().0 == 0 {
+            *zeros.entry((parts.family(), parts.body.len() % 2)).or_insert(0) += 1;
+        }
+        *long.entry((parts.body.len(), verdict)).or_insert(0) += 1;
+        let asked = AskedToBuild { parts, before: &before, right: (verdict, numbers[1], desk.buffer.clone()) };
+        for (count, mistake) in told.iter_mut().zip(&BUILD_MISTAKES).filter(|(count, _)| **count < 5) {
+            *count += u32::from((mistake.outcome)(&asked) != asked.right);
+        }
+    }
+    let of_families = [Some(4), Some(6)].into_iter().flat_map(|family| [0, 10, 11, 16].map(|v| (family, v)));
+    let possible: BTreeSet<_> = of_families.chain([(None, 10)]).collect();
+    assert!(verdicts.keys().eq(&possible) && verdicts.values().all(|count| *count >= 10), "{verdicts:?}");
+    assert!(zeros.len() == 4 && zeros.values().all(|count| *count >= 20), "{zeros:?}");
+    for (length, verdict) in [(MOST - 1, 0), (MOST, 0), (MOST + 1, 10)] {
+        assert!(long.get(&(length, verdict)) >= Some(&5), "{length}: {:?}", long.get(&(length, verdict)));
+    }
+    let rare: Vec<&str> =
+        BUILD_MISTAKES.iter().zip(told).filter(|(_, count)| *count < 5).map(|(mistake, _)| mistake.name).collect();
+    assert!(rare.is_empty(), "{rare:?}");
+}
+
 #[test]
 fn sources_and_malformed_cases() {
     let case = |operation: u8, source: u8, one: &[u8]| {
@@ -274,7 +315,7 @@ fn sources_and_malformed_cases() {
     let good = [case(9, 0, &[0xAB]), case(9, 1, &[]), case(9, 2, &[])].concat();
     assert_eq!(answers(&good), ("21759\n".repeat(3), true));
     assert_eq!(answers(&good[..good.len() - 1]), ("21759\n".repeat(2), false));
-    assert_eq!(answers(&case(15, 0, &[])), (String::new(), false));
+    assert_eq!(answers(&case(16, 0, &[])), (String::new(), false));
     assert_eq!(answers(&case(0, 3, &[])), (String::new(), false));
     let mut cut = case(0, 0, &[1, 2]);
     cut.pop();
@@ -330,6 +371,39 @@ fn fragments_as_the_format_has_them() {
     for size in [1, 8, 15, 17, 24] {
         assert_eq!(answers(&case(&vec![0; size])), (String::new(), false));
     }
+}
+
+/// The paper's example 11, built. A case whose addresses are longer than payload two is malformed.
+#[test]
+fn builds_as_the_format_has_them() {
+    let parts = Parts {
+        source: &[0xC0, 0xA8, 0, 1],
+        destination: &[0xC0, 0xA8, 0, 0xC7],
+        source_port: 0x1388,
+        destination_port: 0x1389,
+        lifetime: 64,
+        body: &[0x48, 0x69],
+    };
+    let (number, two) = build_payload(&parts);
+    assert_eq!((number, &two[..]), (0x1388_1389_4000_4004, &[0xC0, 0xA8, 0, 1, 0xC0, 0xA8, 0, 0xC7, 0x48, 0x69][..]));
+    let case = |number, room: usize, two: &[u8]| {
+        Case { operation: BUILD, source: 0, number, one: vec![7; room], two: two.to_vec() }.to_bytes()
+    };
+    let after = [&parts.packet()[..], &[7; 3]].concat();
+    assert_eq!(answers(&case(number, 33, &two)), (format!("0 30 {}\n", digest(&after)), true));
+    assert_eq!(answers(&case(number, 30, &two)), (format!("0 30 {}\n", digest(&after[..30])), true));
+    assert_eq!(answers(&case(number, 29, &two)), (format!("16 0 {}\n", digest(&[7; 29])), true));
+    assert_eq!(answers(&case(number - 0x4000_0000, 29, &two)), (format!("11 0 {}\n", digest(&[7; 29])), true));
+    for sizes in [0x4003, 0x4005, 0x3004, 0x5004, 0xA000, 0x000A, 0] {
+        let number = number & 0xFFFF_FFFF_0000_0000 | sizes;
+        assert_eq!(answers(&case(number, 33, &two)), (format!("10 0 {}\n", digest(&[7; 33])), true));
+    }
+    for sizes in [0x4007, 0x7004, 0xB000, 0x000B, 0xFFF000, 0x000FFF, 0xFFFFFF] {
+        assert_eq!(answers(&case(sizes, 33, &two)), (String::new(), false));
+    }
+    let (number, two) = build_payload(&Parts { source: &[0; 4095], destination: &[0; 4095], ..parts });
+    assert_eq!(answers(&case(number, 0, &two)), ("10 0 0\n".to_string(), true));
+    assert_eq!(answers(&case(number, 0, &two[..8189])), (String::new(), false));
 }
 
 #[test]
