@@ -5,15 +5,15 @@ use native.Mathlib.Omega.{arith}
 use mathlib.Core.List.{List, _++_}
 use mathlib.Core.Bool.{Bool, true, false, not, _||_}
 use lib.ListN.{length, take, drop}
-use lib.Seq.{length-take-le}
 use lib.Dec.{ltb, eqb}
+use lib.Seq.{length-take-le}
 use borrow.Author.Tests.{lt-ltb, le-ltb, eq-eqb, ne-eqb, ltb-false, eqb-true, eqb-false, not-false}
 use Rattle.verdicts.specs.declared.Verdict.the-variants.{Place, Spent, Room}
 use Rattle.verdicts.proofs.Tests.{by-cases, or-false}
 use Rattle.verdicts.proofs.Rules.{clear-first}
 use Rattle.wire.specs.Bytes.{put}
-use Rattle.build.specs.Layout.{Asked, familyFor, sizeOf, packetIn, packetOf}
 use Rattle.wire.specs.declared.Message.{Message}
+use Rattle.build.specs.Layout.{Asked, familyFor, sizeOf, packetIn, packetOf}
 use Rattle.build.specs.Places.{Fits, placesIn}
 use Rattle.build.specs.Build.{neither, unfit, buildRules, refusal, done, builtOf}
 use Rattle.build.proofs.Laid.{read}
@@ -21,6 +21,16 @@ use Rattle.build.proofs.Steps.{put-first}
 
 abbrev pub misfit : Asked → Bool
 misfit a = unfit (length (a .source)) (length (a .destination)) (length (a .body))
+
+-- ---- which addresses fit, where the source's size is right
+module _ (s d b : ℕ) (n : neither s ≡ false) where
+  pub differ : (s ≡ d → ⊥) → true ≡ unfit s d b
+  unfolding unfit
+  differ e = by-cases (neither d) (λ t. simp (n, t)) (λ t. simp (n, t, ne-eqb s d e))
+
+  pub alike : s ≡ d → ltb 1400 b ≡ unfit s d b
+  unfolding unfit
+  alike e = rw (sym e) (simp (n, eq-eqb s s refl))
 
 -- ---- refusals
 module _ (a : Asked) (buffer : List ℕ) where

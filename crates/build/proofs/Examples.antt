@@ -1,20 +1,20 @@
 -- Packets built, computed from the definitions. The datagram is the paper's eleventh example, with either of its two bodies.
-use Prim.Native.Nat.{ℕ}
 use mathlib.Core.Path.{_≡_, refl}
+use Prim.Native.Nat.{ℕ}
 use mathlib.Core.List.{List, [], _∷_, _++_}
 use Rattle.verdicts.specs.declared.Verdict.the-variants.{Place, Spent, Room}
 use Rattle.sums.specs.Total.{weigh}
 use Rattle.sums.specs.Fold.{fold}
 use Rattle.wire.specs.Bytes.{put}
-use Rattle.wire.specs.Outer.{familyOf, headerEnd, declaredEnd, nextOf, fragmentOf}
 use Rattle.wire.specs.Walk.{between, metOf, walkBy, walkOf}
 use Rattle.wire.specs.Table.{rowOf}
 use Rattle.wire.specs.Messages.{saidIn}
 use Rattle.wire.specs.Inner.{protocolOf, startOf, carriedOf, endOf, fieldAt}
+use Rattle.wire.specs.Outer.{familyOf, headerEnd, declaredEnd, nextOf, fragmentOf}
 use Rattle.cover.specs.Sums.{headerTotal, messageTotal}
 use Rattle.mend.specs.Fresh.{sent, freshHeader, freshMessage}
 use Rattle.build.specs.Layout.{Asked, asked, laid, packetOf}
-use Rattle.build.specs.Build.{unfit, buildRules, refusal, done, builtOf}
+use Rattle.build.specs.Build.{unfit, buildRules, refusal, builtOf}
 use Rattle.build.specs.Reads.{Builds}
 
 -- from port 5000 to 5001, over IPv4

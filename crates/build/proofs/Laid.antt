@@ -1,28 +1,28 @@
 -- A packet laid out, read by the places that judge, mender and edits go by.
 use mathlib.Core.Path.{_≡_, refl, sym, ap, ap₂, _∙_}
+use mathlib.Core.Logic.{inl, inr}
 use Prim.Native.Nat.{ℕ, _+_, _-_, _<_}
 use native.Mathlib.Omega.{arith}
+use native.Mathlib.Nat.{add-zero}
 use mathlib.Core.List.{List, _++_, append-assoc}
-use mathlib.Core.Logic.{inl, inr}
 use mathlib.Core.Bool.{true, false, _||_}
 use lib.ListN.{length, length-append, take, drop}
-use lib.Seq.{take-at, drop-at, take-all, drop-drop}
-use native.Mathlib.Nat.{add-zero}
 use lib.Dec.{ltb, eqb}
+use lib.Seq.{take-at, drop-at, take-all, drop-drop}
 use borrow.Author.Tests.{ne-eqb, le-ltb}
 use Rattle.verdicts.specs.Rules.{clear}
 use Rattle.sums.specs.Total.{total}
-use Rattle.cover.specs.Sums.{messageTotal}
 use Rattle.wire.specs.Bytes.{byteAt, wordAt, part}
-use Rattle.wire.specs.Outer.{familyOf, headerEnd, declaredEnd, nextOf, fragmentOf, lifetimeAt, addressesAt, addressSize, outerRules}
 use Rattle.wire.specs.Walk.{reached, walkOf, walkBy, metOf, between}
 use Rattle.wire.specs.Table.{rowOf, uncovered}
 use Rattle.wire.specs.Messages.{planIn, saidIn, shapeRules, coveredIn}
 use Rattle.wire.specs.Inner.{startOf, protocolOf, carriedOf, endOf, fieldAt, bodyOf, pseudo, messageRules, addressesOf, lengthOf, messageBytes, silentOf, Holds}
+use Rattle.wire.specs.Outer.{familyOf, headerEnd, declaredEnd, nextOf, fragmentOf, lifetimeAt, addressesAt, addressSize, outerRules}
 use Rattle.wire.specs.declared.Family.{Family}
 use Rattle.wire.specs.declared.Family.the-variants.{Four, Six}
 use Rattle.wire.specs.declared.Plan.{Plan}
 use Rattle.wire.proofs.Parts.{part-word}
+use Rattle.cover.specs.Sums.{messageTotal}
 use Rattle.build.specs.Layout.{Asked, datagramSize, datagramFor, headerSize, laid}
 use Rattle.build.specs.Places.{addressBytes, Fits, placesIn}
 use Rattle.build.specs.Reads.{Plain}

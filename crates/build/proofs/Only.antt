@@ -13,7 +13,6 @@ use Rattle.verdicts.specs.declared.Verdict.{Verdict}
 use Rattle.verdicts.specs.declared.Verdict.the-variants.{Good}
 use Rattle.verdicts.proofs.Calls.{call-done}
 use Rattle.sums.specs.Fold.{fold, fieldOf}
-use Rattle.cover.specs.Sums.{messageTotal}
 use Rattle.wire.specs.Bytes.{byteAt, wordAt, part, putWord, Bytes}
 use Rattle.wire.specs.Outer.{four, familyOf, versionOf, headerField, addressesAt, addressSize}
 use Rattle.wire.specs.Chain.{Chain, here, over}
@@ -25,11 +24,12 @@ use Rattle.wire.proofs.Chains.{chain-order}
 use Rattle.wire.proofs.Facts.{Facts}
 use Rattle.wire.proofs.Held.{whole-facts, family4, family6}
 use Rattle.wire.proofs.Walks.{walk-arrives}
+use Rattle.cover.specs.Sums.{messageTotal}
 use Rattle.judge.specs.Judge.{judgeOf}
 use Rattle.judge.specs.Rfc.{goodByRfc}
 use Rattle.judge.proofs.Accepts.{accepted, verdict-good}
-use Rattle.judge.proofs.Covered.{start4, declared4, protocol4, declared6}
 use Rattle.judge.proofs.Rfc.{good-by-rfc}
+use Rattle.judge.proofs.Covered.{start4, declared4, protocol4, declared6}
 use Rattle.mend.specs.Fresh.{freshHeader, freshMessage}
 use Rattle.mend.specs.Mend.{mendedHeader, mendedMessage, mendOf}
 use Rattle.mend.proofs.Numbers.{sent-small}

@@ -9,11 +9,11 @@ use lib.ListN.{length, take, drop}
 use lib.Dec.{ltb, eqb}
 use lib.Seq.{take-at}
 use borrow.Author.Tests.{ltb-false, eqb-true, eqb-false}
-use Rattle.verdicts.proofs.Tests.{by-cases}
+use Rattle.verdicts.specs.Choice.{if_then_else_}
 use Rattle.verdicts.specs.Rules.{Rule, verdictBy, clear, Comes}
 use Rattle.verdicts.specs.declared.Verdict.{Verdict}
 use Rattle.verdicts.specs.declared.Verdict.the-variants.{Good, Unsummed}
-use Rattle.verdicts.specs.Choice.{if_then_else_}
+use Rattle.verdicts.proofs.Tests.{by-cases}
 use Rattle.verdicts.proofs.Rules.{first-map, first-either, clear-join}
 use Rattle.verdicts.proofs.Calls.{Refusals, verdict-clear, call-done}
 use Rattle.verdicts.proofs.Telling.{Tells, Told, not-tells, or-tells, eqb-tells, ltb-tells, as-tells, next, told-exactly}

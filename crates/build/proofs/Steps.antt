@@ -1,25 +1,20 @@
 -- What the functions that write a packet leave, step by step.
-use mathlib.Core.Path.{_≡_, refl, sym, ap, ap₂, _∙_}
+use mathlib.Core.Path.{_≡_, refl, ap, ap₂, _∙_}
 use Prim.Native.Nat.{ℕ, _+_, _-_, _/_, _%_, _≤_}
 use native.Mathlib.Omega.{arith}
 use mathlib.Core.List.{List, [], _∷_, _++_, append-nil}
 use lib.ListN.{length, drop, length-append}
+use lib.Seq.{sets-eq, drop-length}
 use Rattle.wire.specs.Bytes.{put}
-use Rattle.wire.proofs.Writes.{put-append}
-use Rattle.wire.specs.declared.Family.{Family}
-use Rattle.build.specs.Layout.{header4, header6, headerIn, datagram, Asked, headerSize, datagramSize, headerFor, datagramFor, laid}
 use Rattle.wire.specs.Inner.{Holds}
+use Rattle.wire.specs.declared.Family.{Family}
 use Rattle.wire.specs.declared.Family.the-variants.{Four, Six}
 use Rattle.wire.specs.declared.Message.{Message}
+use Rattle.wire.proofs.Writes.{put-append}
+use Rattle.build.specs.Layout.{header4, header6, headerIn, datagram, Asked, headerSize, datagramSize, headerFor, datagramFor, laid}
 use Rattle.build.specs.Places.{Fits, placesIn, Lays, headerLeft}
 use Rattle.build.proofs.Laid.{read, holds}
 use Rattle.build.proofs.Summed.{header-long}
-use lib.Seq.{sets-eq, drop-length}
-use Rattle.build.specs.Build.{neither, unfit}
-use Rattle.verdicts.proofs.Tests.{by-cases}
-use borrow.Author.Tests.{eq-eqb, ne-eqb}
-use lib.Dec.{ltb}
-use mathlib.Core.Bool.{true, false}
 
 -- bytes put behind those that were put
 behind : (p : List ℕ) (at n : ℕ) (xs ys : List ℕ) {q r : List ℕ} → q ≡ put p at xs → r ≡ put q n ys → n ≡ at + length xs → r ≡ put p at (xs ++ ys)
@@ -86,13 +81,3 @@ laid-out f a p q r s l e g =
     let k = header-long a 0 0 f s in
     let whole = length-append (headerFor f a 0) (datagramFor a 0) in
     behind p 0 (headerSize f) (headerFor f a 0) (datagramFor a 0) x g (omega arith) ∙ put-all p (headerFor f a 0 ++ datagramFor a 0) (omega arith)
-
--- ---- which addresses fit
-module _ (s d b : ℕ) (n : neither s ≡ false) where
-  pub differ : (s ≡ d → ⊥) → true ≡ unfit s d b
-  unfolding unfit
-  differ e = by-cases (neither d) (λ t. simp (n, t)) (λ t. simp (n, t, ne-eqb s d e))
-
-  pub alike : s ≡ d → ltb 1400 b ≡ unfit s d b
-  unfolding unfit
-  alike e = rw (sym e) (simp (n, eq-eqb s s refl))

@@ -1,13 +1,13 @@
 -- What the functions on the way to a packet ask and answer.
-use Prim.Native.Nat.{ℕ, _+_, _-_, _≤_}
 use mathlib.Core.Path.{_≡_}
+use Prim.Native.Nat.{ℕ, _+_, _-_, _≤_}
 use mathlib.Core.List.{List}
 use mathlib.Core.Bool.{true}
 use lib.ListN.{length}
+use Rattle.wire.specs.Bytes.{put}
 use Rattle.wire.specs.declared.Family.{Family}
 use Rattle.wire.specs.declared.Family.the-variants.{Four, Six}
 use Rattle.wire.specs.declared.Message.{Message}
-use Rattle.wire.specs.Bytes.{put}
 use Rattle.build.specs.Layout.{Asked, headerSize, headerIn}
 
 -- an address's size

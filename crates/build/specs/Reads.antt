@@ -1,15 +1,15 @@
 -- What the theorems on a packet that is built speak of.
-use Prim.Native.Nat.{ℕ, _+_, _-_, _≤_, _<_}
 use mathlib.Core.Path.{_≡_}
 use mathlib.Core.Logic.{_⊎_, _≢_}
+use Prim.Native.Nat.{ℕ, _+_, _-_, _≤_, _<_}
 use mathlib.Core.List.{List, [], _∷_}
 use mathlib.Core.Bool.{true, false}
 use lib.ListN.{length}
 use Rattle.verdicts.specs.Rules.{Case, _leads_}
 use Rattle.verdicts.specs.declared.Verdict.the-variants.{Place, Spent, Room}
 use Rattle.wire.specs.Bytes.{byteAt, wordAt, part, Bytes}
-use Rattle.wire.specs.Outer.{four, familyOf, declaredEnd, lifetimeAt, addressesAt, addressSize}
 use Rattle.wire.specs.Inner.{protocolOf, startOf, bodyOf, endOf}
+use Rattle.wire.specs.Outer.{four, familyOf, declaredEnd, lifetimeAt, addressesAt, addressSize}
 use Rattle.build.specs.Layout.{Asked, familyFor}
 use Rattle.build.specs.Build.{done, builtOf}
 

@@ -5,12 +5,12 @@ use native.Mathlib.Omega.{arith}
 use lib.ListN.{length}
 use denote.Ref.{now}
 use Rattle.sums.specs.Fold.{swap}
+use Rattle.wire.specs.Bytes.{put}
 use Rattle.wire.specs.Inner.{Holds}
 use Rattle.wire.specs.declared.Family.{Family}
 use Rattle.wire.specs.declared.Message.{Message}
 use Rattle.mend.specs.Fresh.{freshHeader}
 use Rattle.mend.specs.Mend.{mendedHeader}
-use Rattle.wire.specs.Bytes.{put}
 use Rattle.build.specs.Layout.{Asked, asked, headerSize, datagramFor, laid}
 use Rattle.build.proofs.Summed.{mended-header-is, filled}
 use Rattle.build.proofs.Steps.{laid-out, lays, held}

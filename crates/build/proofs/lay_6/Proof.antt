@@ -1,7 +1,7 @@
 -- The eight bytes before the addresses, and the addresses behind them.
-use denote.Ref.{now}
 use Prim.Native.Nat.{_-_}
 use lib.ListN.{length}
+use denote.Ref.{now}
 use Rattle.build.proofs.Steps.{laid6}
 use borrow.Author.Needs.{needs}
 use Rattle.build.proofs.lay_6.Statement.{statement}

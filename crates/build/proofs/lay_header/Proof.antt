@@ -1,7 +1,7 @@
 -- Either family's.
 use mathlib.Core.Path.{_∙_, sym, ap, subst}
-use mathlib.Core.List.{List}
 use Prim.Native.Nat.{ℕ}
+use mathlib.Core.List.{List}
 use denote.Ref.{now}
 use Rattle.wire.specs.declared.Family.{Family}
 use Rattle.build.specs.Places.{Lays, headerLeft}

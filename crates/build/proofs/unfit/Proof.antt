@@ -1,8 +1,8 @@
 -- The size of one address, that of the other, the body's.
 use mathlib.Core.Path.{_∙_, sym}
-use borrow.Author.Needs.{needs}
 use Rattle.build.specs.Build.{unfit}
-use Rattle.build.proofs.Steps.{differ, alike}
+use Rattle.build.proofs.Answers.{differ, alike}
+use borrow.Author.Needs.{needs}
 use Rattle.build.proofs.unfit.Statement.{statement}
 use Rattle.build.proofs.unfit.Tie as tie
 
