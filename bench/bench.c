@@ -1,5 +1,5 @@
-/* Measures the library beside the ways of ways.c, same.c and gather.c, on UDP packets, over IPv6 also behind another
- * header, a lifetime also on fragments, and on lists of fragments.
+/* Measures the library beside the ways of ways.c, same.c, gather.c and build.c, on UDP packets, over IPv6 also behind
+ * another header, a lifetime also on fragments, on lists of fragments, and on packets that are to be built.
  *
  *     bench calls        calls each once, between begin() and end(), and prints a line for each call:
  *                        what an emulator's trace is counted by
@@ -7,11 +7,13 @@
  *     bench watched      the same for those of the library's calls whose counts the gate watches
  *     bench nine         the same for the nine calls whose cycles are estimated
  *     bench times        measures nanoseconds for each call, and prints a line for each
- *     bench same COUNT   holds same.c to the library on so many random packets, and gather.c on a tenth as many lists
+ *     bench same COUNT   holds same.c to the library on so many random packets, gather.c on a tenth as many lists,
+ *                        and build.c on as many asks
  *
  * A line is operation, packet, way and for times the nanoseconds, with bars between. All ways are first seen to do the
  * same. With ONLY_OURS defined the library alone is there, with NO_PREFIX it is one of before that exchanges none, with
- * NO_FRAGMENTS one that judges no lists of fragments, and without CLANG the ways by clang aren't there. */
+ * NO_FRAGMENTS one that judges no lists of fragments, with NO_BUILD one that builds no packet, and without CLANG the
+ * ways by clang aren't there. */
 #define _POSIX_C_SOURCE 200809L
 #include <stdio.h>
 #include <stdlib.h>
@@ -20,13 +22,13 @@
 
 #include "ways.h"
 
-enum operation { FIELD, CHAIN, JUDGE, MEND, LOWER, ADDRESS, STRETCH, PREFIX, GATHER, OPERATIONS };
+enum operation { FIELD, CHAIN, JUDGE, MEND, LOWER, ADDRESS, STRETCH, PREFIX, GATHER, BUILD, OPERATIONS };
 enum { LONGEST = 67000, PIECE = 63, BATCH = 64, ROUNDS = 3000, FEWER = 150 };
 enum { MOST = 64, TINY = 8 * MOST, MESSAGE = 65515 }; /* fragments, and their shortest and longest message */
 
 static const char *const names[OPERATIONS] = {
     "field", "chain", "judge", "mend", "lower lifetime", "set address", "set stretch", "exchange prefix",
-    "judge fragments",
+    "judge fragments", "build",
 };
 #ifdef NO_PREFIX
 #define hifrostum_exchange_prefix 0
@@ -34,9 +36,13 @@ static const char *const names[OPERATIONS] = {
 #ifdef NO_FRAGMENTS
 #define hifrostum_judge_fragments 0
 #endif
+#ifdef NO_BUILD
+#define hifrostum_build_udp 0
+#endif
 static const struct way library = {
     "ours", hifrostum_field, hifrostum_sum_chain, hifrostum_judge, hifrostum_mend, hifrostum_lower_lifetime,
     hifrostum_set_address, hifrostum_set_stretch, hifrostum_exchange_prefix, hifrostum_judge_fragments,
+    hifrostum_build_udp,
 };
 static const struct way *const ours = &library;
 
@@ -51,28 +57,35 @@ static const struct {
     {"cc: ", plain_cc + 3},       {"cc: ", &once_cc},           {"cc: ", &copies_cc},
     {"cc: ", &adc_cc},            {"cc: ", &sse2_cc},           {"cc: ", &copied_cc},
     {"cc: ", &placed_cc},         {"cc: ", &placed_adc_cc},     {"cc: ", &placed_sse2_cc},
+    {"cc: ", &loop_cc},           {"cc: ", &wide_cc},           {"cc: ", &wide_adc_cc},
+    {"cc: ", &wide_sse2_cc},
 #ifdef CLANG
     {"clang: ", plain_clang},     {"clang: ", plain_clang + 1}, {"clang: ", plain_clang + 2},
     {"clang: ", plain_clang + 3}, {"clang: ", &once_clang},     {"clang: ", &copies_clang},
     {"clang: ", &adc_clang},      {"clang: ", &sse2_clang},     {"clang: ", &copied_clang},
     {"clang: ", &placed_clang},   {"clang: ", &placed_adc_clang}, {"clang: ", &placed_sse2_clang},
+    {"clang: ", &loop_clang},     {"clang: ", &wide_clang},     {"clang: ", &wide_adc_clang},
+    {"clang: ", &wide_sse2_clang},
 #endif
 #endif
 };
 enum { WAYS = sizeof ways / sizeof *ways };
 
-static const size_t lengths[] = {40, 64, 128, 576, 1500};
+static const size_t lengths[] = {40, 64, 128, 576, 1500}, bodies[] = {0, 15, 32, 64, 512, 1399, 1400};
 static const uint8_t new[16] = {0xFD, 0x12, 0x34, 0x56, 0x78, 0x9A, 0xBC, 0xDE, 0xF0, 1, 2, 3, 4, 5, 6, 7};
 
 /* What a call is given; a sum takes any bytes. A fragment is one from the middle of a datagram. A packet with a
- * hop-by-hop header of 8 bytes between has as much message as IPv6 without it has in 8 bytes less. The others are all
- * the fragments of a datagram, and the length is that of their message. */
-enum packet { IPV4, IPV6, FRAGMENT4, FRAGMENT6, HOP_BY_HOP, PACKETS, WHOLE = PACKETS, TWO, THREE, ORDER, BACK, MIXED };
+ * hop-by-hop header of 8 bytes between has as much message as IPv6 without it has in 8 bytes less. Then come all the
+ * fragments of a datagram, and the length is that of their message. The last two are for building, and the length is
+ * that of the body. */
+enum packet {
+    IPV4, IPV6, FRAGMENT4, FRAGMENT6, HOP_BY_HOP, PACKETS, WHOLE = PACKETS, TWO, THREE, ORDER, BACK, MIXED, BODY4, BODY6
+};
 enum { BETWEEN = 8 };
 static const char *const packets[] = {
     "IPv4",          "IPv6",          "IPv4 fragment",           "IPv6 fragment",           "IPv6 hop-by-hop",
     "1, message of", "2, message of", "3, message of",           "64 in order, message of", "64 reversed, message of",
-    "64 shuffled, message of",
+    "64 shuffled, message of", "IPv4, body of", "IPv6, body of",
 };
 
 /* Calls that are looked at more closely. */
@@ -84,7 +97,7 @@ struct row {
 static const struct row watched[] = {
     {JUDGE, IPV4, 40}, {JUDGE, IPV4, 64},   {JUDGE, IPV4, 1500}, {JUDGE, IPV6, 64},  {MEND, IPV4, 64}, {MEND, IPV6, 64},
     {LOWER, IPV4, 64}, {ADDRESS, IPV4, 64}, {STRETCH, IPV4, 64}, {PREFIX, IPV6, 64}, {FIELD, IPV4, 64},
-    {GATHER, TWO, 1480}, {GATHER, ORDER, MESSAGE}, {GATHER, BACK, MESSAGE},
+    {GATHER, TWO, 1480}, {GATHER, ORDER, MESSAGE}, {GATHER, BACK, MESSAGE}, {BUILD, BODY4, 64}, {BUILD, BODY6, 1400},
 };
 static const struct row nine[] = {
     {JUDGE, IPV4, 64}, {JUDGE, IPV4, 1500}, {JUDGE, IPV6, 64},   {MEND, IPV4, 64},    {MEND, IPV4, 1500},
@@ -114,6 +127,12 @@ static void cut(size_t len)
 static struct hifrostum_fragment records[MOST];
 static size_t records_len;
 
+/* What a packet is built of: two addresses, of four or sixteen bytes, and a body. The buffer has a few bytes more than
+ * the packet needs, and they stay. */
+enum { BEHIND = 24 };
+static uint8_t source[16], destination[16], body[1400];
+static size_t address_len, body_len;
+
 /* What a trace is cut at. */
 __attribute__((noinline)) void begin(void)
 {
@@ -134,17 +153,21 @@ static int has(const struct way *way, enum operation op)
     case MEND: return way->mend != 0;
     case PREFIX: return way->prefix != 0;
     case GATHER: return way->gather != 0;
+    case BUILD: return way->build != 0;
     default: return way->lower != 0;
     }
 }
 
 /* One call. A chain answers its fold behind its length, or 1; a new address or prefix is a destination's; a stretch is
- * 8 bytes from the odd place 3 on. It stands in counted() itself, whose instructions don't count. */
+ * 8 bytes from the odd place 3 on; a packet of another length than the buffer was made for is a refusal. It stands in
+ * counted() itself, whose instructions don't count. */
 static inline __attribute__((always_inline)) unsigned call(const struct way *way, enum operation op, uint8_t *packet,
                                                            size_t len)
 {
     uint16_t fold;
     uint64_t length;
+    size_t size;
+    uint8_t verdict;
     switch (op) {
     case FIELD: return way->field(packet, len);
     case CHAIN: return way->chain(packet, len, pieces, pieces_len, &fold, &length) ? 1 : (unsigned)length << 16 | fold;
@@ -154,6 +177,10 @@ static inline __attribute__((always_inline)) unsigned call(const struct way *way
     case ADDRESS: return way->address(packet, len, 1, new, packet[0] >> 4 == 4 ? 4 : 16);
     case STRETCH: return way->stretch(packet, len, 3, new, 8);
     case PREFIX: return way->prefix(packet, len, 1, prefixes[turn], 6, prefixes[1 - turn], 6);
+    case BUILD:
+        verdict = way->build(source, address_len, destination, address_len, 40404, 50505, 64, body, body_len, packet,
+                             len, &size);
+        return verdict ? verdict : size != len - BEHIND;
     default: return way->gather(packet, len, records, records_len);
     }
 }
@@ -244,15 +271,31 @@ static size_t gathered(uint8_t *buffer, enum packet kind, size_t message)
     return len;
 }
 
-/* Stops unless a way answers and writes what the library does. Answers 0 if that refuses, as a library of before does a
- * fragment or headers between: then there is nothing to measure. */
+/* Fills what a packet is built of, and the buffer. Answers the buffer's length. */
+static size_t asked(uint8_t *buffer, enum packet kind, size_t len)
+{
+    address_len = kind == BODY4 ? 4 : 16;
+    body_len = len;
+    for (size_t i = 0; i < sizeof source; i++) {
+        source[i] = (uint8_t)(i * 37 + 10);
+        destination[i] = (uint8_t)(i * 59 + 11);
+    }
+    for (size_t i = 0; i < sizeof body; i++)
+        body[i] = (uint8_t)(i * 73 + 5);
+    len += (kind == BODY4 ? 20 : 40) + 8 + BEHIND;
+    memset(buffer, 0xA5, len);
+    return len;
+}
+
+/* Stops unless a way answers and writes what the library does, and builds. Answers 0 if the library refuses a packet,
+ * as one of before does a fragment or headers between: then there is nothing to measure. */
 static int compare(const struct way *way, enum operation op, const uint8_t *packet, size_t len)
 {
     static uint8_t want[LONGEST], got[LONGEST];
     memcpy(want, packet, len);
     memcpy(got, packet, len);
     unsigned answer = call(ours, op, want, len);
-    if (answer != call(way, op, got, len) || memcmp(want, got, len) != 0) {
+    if (answer != call(way, op, got, len) || memcmp(want, got, len) != 0 || (op == BUILD && answer != 0)) {
         fprintf(stderr, "bench: %s: %s differs at %zu bytes\n", names[op], way->name, len);
         exit(1);
     }
@@ -321,6 +364,8 @@ static void measure(int calls, struct row r, size_t first)
     size_t len = r.len;
     if (r.op == GATHER) {
         len = gathered(packet, r.packet, r.len);
+    } else if (r.op == BUILD) {
+        len = asked(packet, r.packet, r.len);
     } else {
         build(packet, r.packet, len);
         memcpy(prefixes[0], packet + 24, sizeof prefixes[0]);
@@ -365,6 +410,9 @@ static void measure_all(int calls)
             }
     for (size_t i = 0; i < sizeof lists / sizeof *lists; i++)
         measure(calls, lists[i], WAYS);
+    for (enum packet packet = BODY4; packet <= BODY6; packet++)
+        for (size_t i = 0; i < sizeof bodies / sizeof *bodies; i++)
+            measure(calls, (struct row){BUILD, packet, bodies[i]}, WAYS);
 }
 
 /* Edits of the library's whose cost must not grow with the packet. */
@@ -388,6 +436,18 @@ static void hold_gathered(unsigned long lists)
         if (has(*ways[w].way, GATHER))
             held += differ_lists(ours, ways[w].by, *ways[w].way, w, lists / all);
     printf("gather.c does what the library does: %lu random lists of fragments\n", held);
+}
+
+/* build.c's are the ways that build packets. */
+static void hold_built(unsigned long asks)
+{
+    unsigned long held = 0, all = 0;
+    for (size_t w = 1; w < WAYS; w++)
+        all += has(*ways[w].way, BUILD);
+    for (size_t w = 1; w < WAYS; w++)
+        if (has(*ways[w].way, BUILD))
+            held += differ_asks(ours, ways[w].by, *ways[w].way, w, asks / all);
+    printf("build.c does what the library does: %lu random asks\n", held);
 }
 
 /* same.c's are the ways that judge and have no chain. */
@@ -420,6 +480,7 @@ int main(int argc, char **argv)
     else if (strcmp(what, "same") == 0 && argc == 3) {
         hold_same(strtoul(argv[2], NULL, 10));
         hold_gathered(strtoul(argv[2], NULL, 10) / 10);
+        hold_built(strtoul(argv[2], NULL, 10));
     }
 #endif
     else {

@@ -3,8 +3,8 @@
 #
 # On any machine: the instructions of each call, counted in the trace of qemu-x86_64 running one instruction at a time,
 # and cycles that llvm-mca estimates. On x86-64 also times. The library is what the kit's LLVM makes of it. Plain C
-# (ways.c) is compiled with -O2, and C that makes the library's own tests (same.c, and gather.c for fragments) with -O3,
-# by the machine's C compiler and by clang where there is one.
+# (ways.c) is compiled with -O2, and C that makes the library's own tests (same.c, gather.c for fragments, and build.c
+# for packets built) with -O3, by the machine's C compiler and by clang where there is one.
 #
 #   BEFORE=DIR/libhifrostum.a BEFORE_COMMIT=NAME bench/run.sh
 #
@@ -41,10 +41,17 @@ objects='' compilers=cc
                 -o "$out/$name-$by.o"
             objects="$objects $out/$name-$by.o"
         done
+        for way in loop:1:PLAIN wide:0:PLAIN wide_adc:0:CHAINS wide_sse2:0:VECTORS; do
+            name=${way%%:*} kind=${way##*:} loop=${way#*:}
+            $x86 "$by" -O3 $flags -DBY="${name}_$by" -DLOOP="${loop%:*}" -DKIND="$kind" -c bench/build.c \
+                -o "$out/$name-$by.o"
+            objects="$objects $out/$name-$by.o"
+        done
     done
     clang=
     [ "$compilers" = cc ] || clang=-DCLANG
-    $x86 cc -O2 $flags $clang -static bench/bench.c bench/differ.c bench/lists.c $objects "$archive" -o $out/bench
+    $x86 cc -O2 $flags $clang -static bench/bench.c bench/differ.c bench/lists.c bench/asks.c $objects "$archive" \
+        -o $out/bench
 }
 
 # Prints a table of the lines on standard input; table.awk says what KIND is.
@@ -52,21 +59,23 @@ table() { # KIND COLUMNS
     awk -F ' *[|] *' -v kind="$1" -v columns="$2" -f bench/table.awk
 }
 
-# Lines about lists of fragments, or about all else.
-about() { # lists|packets
+# Lines about lists of fragments, about packets built, or about all else.
+about() { # lists|built|packets
     case $1 in
     lists) grep '^judge fragments |' ;;
-    packets) grep -v '^judge fragments |' ;;
+    built) grep '^build |' ;;
+    packets) grep -v -e '^judge fragments |' -e '^build |' ;;
     esac
 }
 
 # the columns' names
-once='' copies='' copied='' placed=''
+once='' copies='' copied='' placed='' loop='' wide=''
 for by in $compilers; do
     once="$once;$by: once" copies="$copies;$by: copies" copied="$copied;$by: copied" placed="$placed;$by: in place"
+    loop="$loop;$by: loop" wide="$wide;$by: 64-bit"
 done
 plain=';RFC 1071 loop;64-bit loop;DPDK shape;RFC 1624 or 6296 by hand' same="$once$copies;adc;SSE2"
-gathered="$copied$placed;adc;SSE2"
+gathered="$copied$placed;adc;SSE2" built="$loop$wide;adc;SSE2"
 
 commit=$(git rev-parse --short HEAD 2>/dev/null) || commit=unknown
 git diff --quiet HEAD -- crates crates.txt 2>/dev/null || commit="$commit, with changes"
@@ -84,6 +93,7 @@ if [ -n "${BEFORE:-}" ]; then
     less=
     $x86 nm "$BEFORE" | grep -q ' T hifrostum_exchange_prefix$' || less=-DNO_PREFIX
     $x86 nm "$BEFORE" | grep -q ' T hifrostum_judge_fragments$' || less="$less -DNO_FRAGMENTS"
+    $x86 nm "$BEFORE" | grep -q ' T hifrostum_build_udp$' || less="$less -DNO_BUILD"
     # shellcheck disable=SC2086
     $x86 cc -O2 $flags $less -DONLY_OURS -static bench/bench.c "$BEFORE" -o $out/bench-before
     bench/count.sh $out/bench-before calls >$out/before
@@ -109,6 +119,12 @@ echo "Fragments of one message, beside C that makes the same tests in the same o
 echo "buffer and sums that (copied), or sums each piece in place; the last two columns do so with the sums named there:"
 echo
 about lists <$out/calls | table gathered "ours$gathered"
+echo
+echo "Packets built, beside C that makes the same tests in the same order and copies the body by memcpy. It stores"
+echo "fields byte by byte and sums in RFC 1071's loop (loop), or stores eight bytes at a time and sums in 64 bits; the"
+echo "last two columns do so with the sums named there:"
+echo
+about built <$out/calls | table built "ours$built"
 
 echo
 echo "Instructions of three edits, by the packet's length:"
@@ -154,6 +170,8 @@ if $x86 native; then
     about packets <$out/times | table same "ours$same"
     echo
     about lists <$out/times | table gathered "ours$gathered"
+    echo
+    about built <$out/times | table built "ours$built"
 else
     echo "Times are measured on x86-64 alone; this machine is $(uname -m)."
 fi

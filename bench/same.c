@@ -450,6 +450,6 @@ static uint8_t prefix(uint8_t *packet, size_t len, uint32_t side, const uint8_t 
 
 static const struct way way = {
     SHAPE == ONCE ? "once" : KIND == PLAIN ? "copies" : KIND == CHAINS ? "adc" : "SSE2",
-    field, 0, judge, mend, lower, address, stretch, prefix, 0,
+    field, 0, judge, mend, lower, address, stretch, prefix, 0, 0,
 };
 const struct way *const BY = &way;

@@ -2,14 +2,17 @@
 # no compiler before it has the better of both compilers. kind is plain (the values, and ours over the best) or same
 # (also ours over the best C whose work stands once, and over the best C without assembly). Rows in which no column but
 # ours and before has a value are left out, and equal rows of an operation are joined. gathered is as same, for C that
-# copies fragments together or sums them in place.
+# copies fragments together or sums them in place, and built for C that builds packets and sums in a loop or wider.
 BEGIN {
     heads["same"] = " ours / once | ours / C |"
     heads["gathered"] = " ours / copied | ours / C |"
+    heads["built"] = " ours / loop | ours / C |"
     first["same"] = "once$"
     first["gathered"] = "copied$"
+    first["built"] = "loop$"
     c_alone["same"] = "(once|copies)$"
     c_alone["gathered"] = "(copied|in place)$"
+    c_alone["built"] = "(loop|64-bit)$"
     n = split(columns, column, ";")
     for (c = 1; c <= n; c++)
         is_column[column[c]] = 1

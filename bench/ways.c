@@ -276,7 +276,7 @@ EACH uint8_t stretch(summing sum, uint8_t *p, size_t len, size_t where, const ui
         return stretch(sum_##name, p, n, where, new, new_len);                                                 \
     }                                                                                                          \
     static const struct way name = {words,       name##_field, name##_chain,   name##_judge,                   \
-                                    name##_mend, name##_lower, name##_address, name##_stretch, 0, 0}
+                                    name##_mend, name##_lower, name##_address, name##_stretch, 0, 0, 0}
 
 WAY(rfc1071, "RFC 1071 loop");
 WAY(wide, "64-bit loop");
@@ -357,7 +357,7 @@ static uint8_t hand_prefix(uint8_t *p, size_t len, uint32_t side, const uint8_t 
 }
 
 static const struct way by_hand = {
-    "RFC 1624 or 6296 by hand", 0, 0, 0, 0, hand_lower, hand_address, hand_stretch, hand_prefix, 0,
+    "RFC 1624 or 6296 by hand", 0, 0, 0, 0, hand_lower, hand_address, hand_stretch, hand_prefix, 0, 0,
 };
 
 /* BY is plain_cc or plain_clang. */

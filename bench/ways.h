@@ -16,6 +16,8 @@ struct way {
     uint8_t (*stretch)(uint8_t *, size_t, size_t, const uint8_t *, size_t);
     uint8_t (*prefix)(uint8_t *, size_t, uint32_t, const uint8_t *, size_t, const uint8_t *, size_t);
     uint8_t (*gather)(const uint8_t *, size_t, const struct hifrostum_fragment *, size_t);
+    uint8_t (*build)(const uint8_t *, size_t, const uint8_t *, size_t, uint16_t, uint16_t, uint8_t, const uint8_t *,
+                     size_t, uint8_t *, size_t, size_t *);
 };
 
 /* ways.c, as one C compiler makes it and as clang does: the loop of RFC 1071, a 64-bit accumulator, the shape of DPDK's
@@ -31,6 +33,10 @@ extern const struct way *const once_clang, *const copies_clang, *const adc_clang
 extern const struct way *const copied_cc, *const placed_cc, *const placed_adc_cc, *const placed_sse2_cc;
 extern const struct way *const copied_clang, *const placed_clang, *const placed_adc_clang, *const placed_sse2_clang;
 
+/* build.c, by both: packets built alone, summed by RFC 1071's loop, or by each kind of sums. */
+extern const struct way *const loop_cc, *const wide_cc, *const wide_adc_cc, *const wide_sse2_cc;
+extern const struct way *const loop_clang, *const wide_clang, *const wide_adc_clang, *const wide_sse2_clang;
+
 /* differ.c: stops the program at the first difference between two ways, in answers or in bytes, on packets from a
  * seeded generator. Answers how many calls were compared. */
 unsigned long differ(const struct way *ours, const char *by, const struct way *way, uint64_t seed,
@@ -39,5 +45,9 @@ unsigned long differ(const struct way *ours, const char *by, const struct way *w
 /* lists.c: the same for lists of fragments. */
 unsigned long differ_lists(const struct way *ours, const char *by, const struct way *way, uint64_t seed,
                            unsigned long lists);
+
+/* asks.c: the same for packets that are to be built. */
+unsigned long differ_asks(const struct way *ours, const char *by, const struct way *way, uint64_t seed,
+                          unsigned long asks);
 
 #endif

@@ -1,7 +1,7 @@
 #!/bin/sh
 # Builds and runs what links the archive: the host test, the same over a shared object and from C++, updates and sums
-# beside the second implementation's, corners, lengths over 2^32, and the hut; looks at the archive's names; and tries
-# the program and the script that runs it.
+# beside the second implementation's, corners, lengths over 2^32, the hut, and the status packet; looks at the archive's
+# names; and tries the program and the script that runs it.
 # HIFROSTUM_SKIP_C=1 leaves all of it out. JUDGE_CAPTURE names another program than target/bin/judge_capture.
 set -eu
 cd "$(dirname "$0")/.."
@@ -50,6 +50,7 @@ sed -n '/^ \*     static uint16_t fold_at/,/^ \* A UDP/s/^ \*     //p' include/h
     $x86 cc $flags tests/host/blocks.c "$archive" -o $out/blocks
     $x86 cc $flags tests/host/corners.c "$archive" -o $out/corners
     $x86 cc $flags examples/hut/hut.c "$archive" -o $out/hut
+    $x86 cc $flags examples/status/status.c "$archive" -o $out/status
     $x86 cc $flags $out/readme.c "$archive" -o $out/readme
     $x86 cc -shared -Wl,-z,text,-z,defs,--whole-archive "$archive" -Wl,--no-whole-archive -o $out/libhifrostum.so
     $x86 cc $flags tests/host/host.c $out/libhifrostum.so -Wl,-rpath,"$PWD/$out" -o $out/host-shared
@@ -63,6 +64,7 @@ fi
 tests/host/program.sh "$judge_capture" crates/judge_capture/stdin
 tests/host/wrapper.sh crates/judge_capture/stdin
 tests/host/hut.sh $out/hut "$judge_capture"
+tests/host/status.sh $out/status "$judge_capture" $out/hut
 # a block and a chain of an odd length over 2^32, and a chain of 2^64, whose list has 2^32 pieces and more; in the
 # emulator the block has a length over 2^28, and the chain of 2^64, which takes a minute there, is left out
 if $x86 native; then

@@ -1,10 +1,10 @@
 """Holds the library to tools that nobody here wrote: scapy, the Linux kernel and tshark.
 
 interop.py FOLDER HERE THERE MIDDLE NPT OURS..: where run.sh has put captures, of what the kernel sent and of what came
-to relay.py and left it; the network namespaces of the two kernels, of the relay, which exchanges prefixes now, and of a
-kernel that exchanges them itself, or none; and the words that start ours.c's program. Prints a table of counts, and
-tables of what each judge says where the rules ask for more than the sum, or for less than receivers do. At a
-disagreement it prints the packet in hex, and the exit status is 1.
+to relay.py and left it, and the example that sends; the network namespaces of the two kernels, of the relay, which
+exchanges prefixes now, and of a kernel that exchanges them itself, or none; and the words that start ours.c's program.
+Prints a table of counts, and tables of what each judge says where the rules ask for more than the sum, or for less than
+receivers do. At a disagreement it prints the packet in hex, and the exit status is 1.
 """
 import itertools
 import struct
@@ -17,6 +17,7 @@ from scapy.utils import checksum
 
 from apart import BY_KERNEL, SAID, apart
 from between import TYPES, hand_put, long_put, missummed, scapy_put, unread
+from built import check_all_built
 from exchange import check_all_exchanged, print_exchanged, ways_between
 from fragments import Fragment, is_fragment, messages
 from gathered import check_all_gathered
@@ -706,6 +707,7 @@ def main():
     check_all_between(made, between, pairs, post)
     check_all_exchanged([data for data in made if not Packet(data).four], folder, ways, post, middle, npt)
     check_all_gathered(folder, pairs, post)
+    check_all_built(here, [*sys.argv[OURS:-1], folder + "/status"], post)
     differ = report()
     print_sides()
     print_exchanged()

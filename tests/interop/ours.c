@@ -1,12 +1,13 @@
 /* Calls the library for the interop test: requests on standard input, answers on standard output.
  *
  * A request is a letter (j judge, m mend, l lower lifetime, a set address, s set stretch, x exchange
- * prefix, c sum a chain, p sum piece by piece and join, f judge fragments), a number (side or place), new
- * bytes (for x the expected prefix and the new one, for c and p the list of pieces, for f the list of
- * records) and a packet (for f the buffer); an answer is a verdict number and the packet (for c and p the
- * fold and the length in its place). Numbers are 32-bit, a record's two are 64-bit, high byte first, and
- * bytes come after their number. With the word live each answer is out before the next request is
- * awaited. */
+ * prefix, c sum a chain, p sum piece by piece and join, f judge fragments, b build), a number (side or
+ * place, for b both ports), new bytes (for x the expected prefix and the new one, for c and p the list of
+ * pieces, for f the list of records, for b the lifetime, source and destination with a byte for the length
+ * before each, and the body) and a packet (for f and b the buffer); an answer is a verdict number and the
+ * packet (for c and p the fold and the length in its place, for b the length behind it). Numbers are
+ * 32-bit, a record's two and a built packet's length are 64-bit, high byte first, and bytes come after
+ * their number. With the word live each answer is out before the next request is awaited. */
 #include <stdio.h>
 #include <stdlib.h>
 #include <string.h>
@@ -94,6 +95,33 @@ static uint8_t fragments(const uint8_t *buffer, size_t len, const uint8_t *list,
     return hifrostum_judge_fragments(buffer, len, records, count);
 }
 
+/* Some of what is asked: a byte says how many, and they stand behind it. */
+static const uint8_t *some(const uint8_t **ask, const uint8_t *end, size_t *len)
+{
+    const uint8_t *from = *ask + 1;
+    if (*ask == end || (size_t)(end - from) < **ask)
+        stop("an address is cut");
+    *len = **ask;
+    *ask = from + *len;
+    return from;
+}
+
+/* Builds a packet into a buffer, and puts its length behind that. */
+static uint8_t build(uint32_t ports, const uint8_t *ask, size_t ask_len, uint8_t *buffer, size_t *len)
+{
+    const uint8_t *end = ask + ask_len;
+    size_t source_len, destination_len, length = SIZE_MAX;
+    if (ask_len == 0 || *len + 8 > LONGEST)
+        stop("no packet to build");
+    uint8_t lifetime = *ask++;
+    const uint8_t *source = some(&ask, end, &source_len), *destination = some(&ask, end, &destination_len);
+    uint8_t verdict = hifrostum_build_udp(source, source_len, destination, destination_len, (uint16_t)(ports >> 16),
+                                          (uint16_t)ports, lifetime, ask, (size_t)(end - ask), buffer, *len, &length);
+    put(buffer + *len, 8, length);
+    *len += 8;
+    return verdict;
+}
+
 int main(int argc, char **argv)
 {
     static uint8_t new[LONGEST], packet[LONGEST];
@@ -112,6 +140,7 @@ int main(int argc, char **argv)
         case 'c':
         case 'p': verdict = sum(letter == 'p', new, new_len, packet, &len); break;
         case 'f': verdict = fragments(packet, len, new, new_len); break;
+        case 'b': verdict = build(where, new, new_len, packet, &len); break;
         default: stop("no such letter");
         }
         uint8_t head[5] = {verdict};

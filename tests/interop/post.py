@@ -8,6 +8,8 @@ import contextlib
 import ctypes
 import os
 import socket
+import sys
+import typing
 
 CARD, FAR_CARD = "card", "far"
 PORT = 50505  # both bytes differ from talk.py's, so that one damaged byte doesn't lead there
@@ -19,6 +21,12 @@ MESSAGES = ["Tcp:OutRsts", "Icmp:InEchos"]  # the answer to a good segment for a
 REFUSED = ["Udp:InErrors", "Tcp:InErrs", "Icmp:InErrors"]
 WRONG = ["Udp:InCsumErrors", "Tcp:InCsumErrors", "Icmp:InCsumErrors"]  # of the refused
 COUNTED = ["Tcp:", "Udp6", "Icmp6"]  # what the kernel's counts of these are called; TCP's are of both families
+IP_RECVTTL, IP_TTL = 12, 2  # Linux's numbers
+TOLD = [  # what a socket is told of each datagram: its lifetime, and for whom it is
+    (socket.IPPROTO_IP, IP_RECVTTL), (socket.IPPROTO_IPV6, socket.IPV6_RECVHOPLIMIT),
+    (socket.IPPROTO_IPV6, socket.IPV6_RECVPKTINFO),
+]
+MAPPED = bytes(10) + b"\xff\xff"  # what stands before an IPv4 address that is written as an IPv6 one
 
 
 def enter(file):
@@ -51,9 +59,35 @@ def box(port):
     """A socket that gets all datagrams to a port, or to one that is free if it is 0."""
     found = socket.socket(socket.AF_INET6, socket.SOCK_DGRAM)
     found.setsockopt(socket.IPPROTO_IPV6, socket.IPV6_V6ONLY, 0)
+    for level, option in TOLD:
+        found.setsockopt(level, option, 1)
     found.bind(("::", port))
     found.settimeout(5)
     return found
+
+
+class Letter(typing.NamedTuple):
+    """What comes out of a datagram at a socket, and what the socket is told of it."""
+
+    body: bytes
+    source: bytes
+    port: int
+    destination: bytes
+    lifetime: int
+
+
+def address(data):
+    """An address of either family, as its packets carry it."""
+    return data.removeprefix(MAPPED)
+
+
+def letter(came):
+    """What a socket got."""
+    body, told, _, (source, port, *_) = came
+    told = {kind: data for _, kind, data in told}
+    lifetime = int.from_bytes(told.get(IP_TTL) or told[socket.IPV6_HOPLIMIT], sys.byteorder)
+    source = socket.inet_pton(socket.AF_INET6, source)
+    return Letter(body, address(source), port, address(told[socket.IPV6_PKTINFO][:16]), lifetime)
 
 
 def counts(files):
@@ -104,15 +138,19 @@ class Post:
         else:
             self.card.sendto(data, (CARD, TYPES[family], 0, 0, self.address))
 
-    def got(self):
-        """What the socket gets before the mark that follows."""
+    def letters(self):
+        """What the socket gets before the mark that follows, and what it is told of it."""
         found = []
         self.marks += 1
         mark = b"that was packet %d" % self.marks
         self.marking.sendto(mark, (THERE[6], PORT))
-        while (came := self.box.recv(65536)) != mark:
-            found.append(came)
+        while (came := self.box.recvmsg(65536, 1024))[0] != mark:
+            found.append(letter(came))
         return found
+
+    def got(self):
+        """What the socket gets before the mark that follows, without what it is told."""
+        return [letter.body for letter in self.letters()]
 
     def sent(self, data, raw):
         """What the socket gets of a packet, and by how much the two counts grow."""

@@ -27,7 +27,10 @@ fi
 
 archive=$($x86 lib)/libhifrostum.a
 mkdir -p $out
-$x86 cc -O2 -std=c11 -Wall -Wextra -Wpedantic -Werror -Iinclude tests/interop/ours.c "$archive" -o $out/ours
+for source in tests/interop/ours.c examples/status/status.c; do
+    name=${source##*/}
+    $x86 cc -O2 -std=c11 -Wall -Wextra -Wpedantic -Werror -Iinclude "$source" "$archive" -o "$out/${name%.c}"
+done
 
 # Two namespaces, a and b, and two ways between them: a pair of cards (net 99), and through a third namespace, m, where
 # our relay takes what comes at one card to the other (net 98). All cards leave the sums to the kernel. Those of the
@@ -229,7 +232,7 @@ kill $server
 wait $server 2>/dev/null || true
 server=
 
-# What has a trailing area or headers between, and what has its prefix exchanged, goes from a to b in here, by the first
-# way, to where the server was; and some of what the relay saw goes once more through one like it.
+# What has a trailing area or headers between, what has its prefix exchanged, and what we build goes from a to b in
+# here, by the first way, to where the server was; and some of what the relay saw goes once more through one like it.
 begin_relay exchange again-
 $python tests/interop/interop.py $out $a $b $m $npt $x86 run $out/ours
