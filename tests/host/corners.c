@@ -2,8 +2,8 @@
  * them, changes of 0, 1 and 65534; messages of every length at every address modulo 32; lifetimes in packets that no
  * other edit takes; prefixes whose words are corners, and every word behind one; UDP datagrams that end before their
  * message does; headers between, such as a walk gets past and such as it doesn't; messages in fragments, which lie
- * in one buffer in any order, right and with each thing that can be wrong; and packets that are built, of every size, or
- * refused for each reason and each two together.
+ * in one buffer in any order, right and with each thing that can be wrong; and packets that are built, of every size,
+ * or refused, for each reason and for each two together.
  *
  * What is wanted is the answer of model.h. After each call the verdict and every byte are compared, and in the end each
  * rare branch of the model must have been taken. Each packet that is judged is also judged as a list of one fragment.
@@ -1183,17 +1183,17 @@ static const struct kind *const owns[] = {&kinds[2], &kinds[5]};
 enum { OWNS = 2, ROOMIEST = 1800 };
 
 /* Where addresses and body of the next status lie. Their bytes are random. */
-static uint8_t ends[2][40], body[2048];
+static uint8_t sides[2][40], body[2048];
 
 /* A status of a kind with so many bytes of body. */
 static struct status status_of(const struct kind *kind, size_t len)
 {
     size_t size = kind->family == 4 ? 4 : 16;
-    for (size_t i = 0; i < sizeof ends; i++)
-        ends[i / 40][i % 40] = (uint8_t)any(256);
+    for (size_t i = 0; i < sizeof sides; i++)
+        sides[i / 40][i % 40] = (uint8_t)any(256);
     for (size_t i = 0; i < len; i++)
         body[i] = (uint8_t)any(256);
-    return (struct status){kind,       ends[0], ends[1], body, size, size, len, corners[any(CORNERS)],
+    return (struct status){kind,       sides[0], sides[1], body, size, size, len, corners[any(CORNERS)],
                            any(65536), 1 + any(255)};
 }
 
@@ -1213,15 +1213,16 @@ static unsigned call_build(const struct status *s, uint8_t *buffer, size_t len, 
 static int reads_back(const struct status *s, const uint8_t *bytes, size_t len)
 {
     static struct packet got;
-    size_t size = s->source_len, from = s->built->family == 4 ? 12 : 8;
-    got.built = got.kind = s->built;
+    size_t size = s->source_len, four = size == 4, from = four ? 12 : 8;
+    got.built = got.kind = owns[four ? 0 : 1];
     got.len = len;
     memcpy(got.bytes, bytes, len);
     return refused(&got) == 0 && judge(&got) == 0 && end_of(&got) == len && got.header == from + 2 * size &&
            memcmp(bytes + from, s->source, size) == 0 && memcmp(bytes + from + size, s->destination, size) == 0 &&
-           bytes[s->built->family == 4 ? 8 : 7] == s->lifetime && word(bytes + got.header) == s->source_port &&
+           bytes[four ? 8 : 7] == s->lifetime && word(bytes + got.header) == s->source_port &&
            word(bytes + got.header + 2) == s->destination_port && covered_len(&got) == message_len(&got) &&
-           len - body_of(&got) == s->body_len && memcmp(bytes + body_of(&got), s->body, s->body_len) == 0;
+           len - body_of(&got) == s->body_len &&
+           (s->body_len == 0 || memcmp(bytes + body_of(&got), s->body, s->body_len) == 0);
 }
 
 /* Compares a build into so many bytes at an address, which hold others, and what the library says of the packet. */
@@ -1234,7 +1235,7 @@ static void hold_build(const struct status *s, size_t address, size_t len)
     for (size_t i = 0; i < GUARD + len + GUARD; i++)
         at[(ptrdiff_t)i - GUARD] = (uint8_t)(0xA5 + i * (address + 1));
     memcpy(want, at, len);
-    memcpy(were, ends, sizeof ends);
+    memcpy(were, sides, sizeof sides);
     memcpy(lent, body, sizeof body);
     comparing = 1;
     unsigned wanted = build_udp(s, want, len, &wanted_length);
@@ -1243,11 +1244,11 @@ static void hold_build(const struct status *s, size_t address, size_t len)
     for (size_t i = 0; i < GUARD; i++)
         kept &= at[(ptrdiff_t)i - GUARD] == (uint8_t)(0xA5 + i * (address + 1)) &&
                 at[len + i] == (uint8_t)(0xA5 + (GUARD + len + i) * (address + 1));
-    kept &= memcmp(were, ends, sizeof ends) == 0 && memcmp(lent, body, sizeof body) == 0;
+    kept &= memcmp(were, sides, sizeof sides) == 0 && memcmp(lent, body, sizeof body) == 0;
     checks++;
     if ((got != wanted || length != wanted_length || memcmp(at, want, len) != 0 || !kept) && failed++ < 20)
-        printf("corners: failed: build, IPv%u meant, addresses of %zu and %zu bytes, a body of %zu, a lifetime of %u, a "
-               "buffer of %zu: wanted %u and %zu, got %u and %zu%s%s\n",
+        printf("corners: failed: build, IPv%u meant, addresses of %zu and %zu bytes, a body of %zu, a lifetime of %u, "
+               "a buffer of %zu: wanted %u and %zu, got %u and %zu%s%s\n",
                s->built->family, s->source_len, s->destination_len, s->body_len, s->lifetime, len, wanted,
                wanted_length, got, length, memcmp(at, want, len) ? "; other bytes" : "",
                kept ? "" : "; a byte beside the buffer changed");
@@ -1309,8 +1310,8 @@ static void plain(void)
 {
     for (size_t i = 0; i < OWNS * 16 * 1401; i++) {
         struct status s = status_of(owns[i % 2], i / 32);
-        memset(ends[0], i / 2 % 2 ? 0xFF : 0, sizeof ends[0]);
-        memset(ends[1], i / 4 % 2 ? 0xFF : 0, sizeof ends[1]);
+        memset(sides[0], i / 2 % 2 ? 0xFF : 0, sizeof sides[0]);
+        memset(sides[1], i / 4 % 2 ? 0xFF : 0, sizeof sides[1]);
         memset(body, i / 8 % 2 ? 0xFF : 0, s.body_len);
         s.source_port = s.destination_port = i / 16 % 2 ? 0xFFFF : 0;
         hold_build(&s, 2, size_of(&s) + i % 5);
@@ -1326,7 +1327,7 @@ static void built_fields(void)
         size_t len = i / OWNS / CORNERS / 3, way = i / OWNS % 3, length;
         unsigned aim = corners[i / OWNS / 3 % CORNERS];
         struct status s = status_of(owns[i % 2], len <= 200 ? len : 1196 + len);
-        uint8_t *word_at = way == 0 && s.body_len > 1 ? body + 2 * any((unsigned)s.body_len / 2) : ends[0] + 2;
+        uint8_t *word_at = way == 0 && s.body_len > 1 ? body + 2 * any((unsigned)s.body_len / 2) : sides[0] + 2;
         build_udp(&s, packet, ROOMIEST, &length);
         /* the total grows by the field that is there less the one that is aimed at */
         unsigned field = word(packet + size_of(&s) - s.body_len - 2), more = (field + 65535 - aim) % 65535;
@@ -1347,7 +1348,7 @@ static void built_headers(void)
         size_t length;
         unsigned aim = corners[i % CORNERS];
         struct status s = status_of(owns[0], any(1401));
-        uint8_t *word_at = ends[i / CORNERS % 2] + i / CORNERS / 2 % 2 * 2;
+        uint8_t *word_at = sides[i / CORNERS % 2] + i / CORNERS / 2 % 2 * 2;
         build_udp(&s, packet, ROOMIEST, &length);
         put(word_at, (word(word_at) + word(packet + 10) + 65535 - aim) % 65535);
         hold_build(&s, 4, size_of(&s));
@@ -1380,6 +1381,7 @@ static unsigned long branches(void)
     for (size_t k = 0; k < KINDS; k++)
         for (unsigned b = 0; b < BRANCHES; b++) {
             int icmp = kinds[k].protocol == ICMP, udp = kinds[k].protocol == UDP, four = kinds[k].family == 4;
+            int own = udp && !kinds[k].tail && !kinds[k].between;
             int possible = b == PASSES_ZERO                                      ? !udp
                            : b == KEPT_SILENT                                    ? udp && four
                            : b == FRESH_BLANK || b == TOTAL_ZERO                 ? icmp
@@ -1396,8 +1398,8 @@ static unsigned long branches(void)
                            : b == JOINED_ZERO                                    ? four && !udp
                            : b == JOINED_BLANK                                   ? icmp
                            : b == JOINED_SECOND || b == JOINED_THIRD             ? four && !icmp && !udp
-                           : b == BUILT_HEADER                                   ? &kinds[k] == owns[0]
-                           : b >= BUILD_SOURCE                    ? &kinds[k] == owns[0] || &kinds[k] == owns[1]
+                           : b == BUILT_HEADER                                   ? own && four
+                           : b >= BUILD_SOURCE                                   ? own
                            : b >= ENDS_INSIDE                                    ? four && kinds[k].tail
                            : b >= LIST_EMPTY                                     ? four
                            : b >= WALK_EIGHT                                     ? kinds[k].between != 0

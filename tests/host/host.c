@@ -6,7 +6,8 @@
  * nothing at all. An empty buffer is a null pointer in the first. Tails inside a packet also lie in
  * memory that can't be touched, and so does what headers between reach for behind a payload. Each
  * packet that is judged is judged as a list of one fragment too; fragments and their list lie in memory
- * that can't be written, once in four. What is wanted is the rules' or comes from the sums below.
+ * that can't be written, once in four, and so do the addresses and the body of a packet that is to be
+ * built, and its buffer if it is refused. What is wanted is the rules' or comes from the sums below.
  */
 #define _DEFAULT_SOURCE
 #include <stdio.h>
@@ -59,7 +60,7 @@ struct room {
     int lay;
 };
 
-static struct room first, second, third, fourth;
+static struct room first, second, third, fourth, fifth;
 
 static void build(struct room *room)
 {
@@ -1920,7 +1921,7 @@ static void unfit_prefixes(void)
 {
     static const size_t sides[] = {2, 3, 255, 256, 65536, 0x7FFFFFFF, 0x80000000, 0xFFFFFFFE, 0xFFFFFFFF};
     static const size_t lengths[] = {0, 1, 2, 3, 4, 5, 7, 8, 16, 17, 48, 100};
-    uint8_t old[100] = {0}, other[6];
+    uint8_t old[16 + 100] = {0}, other[6];
     size_t len = packet_of(p, 6, 17, 20);
     freshen(p);
     memcpy(old, p + 8, 32);
@@ -2720,6 +2721,322 @@ static void anyhow(void)
     }
 }
 
+/* Packets of the hut's own */
+
+/* What a packet is to be built of. */
+struct status {
+    const uint8_t *source, *destination, *body;
+    size_t source_len, destination_len, body_len;
+    uint16_t source_port, destination_port;
+    uint8_t lifetime;
+};
+
+/* The rules' verdict on a status, for a buffer of so many bytes. */
+static unsigned ruled_status(const struct status *s, size_t room)
+{
+    int four = s->source_len == 4 && s->destination_len == 4, six = s->source_len == 16 && s->destination_len == 16;
+    if ((!four && !six) || s->body_len > 1400)
+        return 10;
+    if (s->lifetime == 0)
+        return 11;
+    return room < (four ? 28 : 48) + s->body_len ? 16 : 0;
+}
+
+/* Lays out the packet, which is no refused one, by RFC 791 or 8200 and by RFC 768. Answers its length. */
+static size_t lay_status(uint8_t *packet, const struct status *s)
+{
+    size_t four = s->source_len == 4, start = four ? 20 : 40, datagram = 8 + s->body_len;
+    memset(packet, 0, start);
+    packet[0] = four ? 0x45 : 0x60;
+    put(packet + (four ? 2 : 4), four ? start + datagram : datagram);
+    packet[four ? 9 : 6] = 17;
+    packet[four ? 8 : 7] = s->lifetime;
+    memcpy(packet + start - 2 * s->source_len, s->source, s->source_len);
+    memcpy(packet + start - s->source_len, s->destination, s->source_len);
+    put(packet + start, s->source_port);
+    put(packet + start + 2, s->destination_port);
+    put(packet + start + 4, datagram);
+    if (s->body_len > 0)
+        memcpy(packet + start + 8, s->body, s->body_len);
+    freshen(packet);
+    return start + datagram;
+}
+
+/* One call, with everything laid so. Source, destination and body can only be read before a wall, and so can the buffer
+ * if the call is to be refused. The buffer has one kind of bytes before, and is to have another. */
+static void call_build(const struct status *s, int lay, const uint8_t *was, const uint8_t *want, size_t room,
+                       unsigned verdict, size_t length)
+{
+    static const size_t before = SIZE_MAX - 76;
+    struct room *const lent[] = {&first, &second, &third, &fourth, &fifth};
+    uint8_t *source = lend(&first, lay, s->source, s->source_len, 1);
+    uint8_t *destination = lend(&second, lay, s->destination, s->destination_len, 1);
+    uint8_t *body = lend(&third, lay, s->body, s->body_len, 1), *buffer = lend(&fourth, lay, was, room, 1);
+    size_t *answer = lend(&fifth, lay, &before, sizeof before, sizeof before);
+    size_t closed = lay != BEFORE_WALL ? 0 : verdict ? 4 : 3;
+    for (size_t i = 0; i < closed; i++)
+        allow(lent[i], PROT_READ);
+    unsigned got = hifrostum_build_udp(source, s->source_len, destination, s->destination_len, s->source_port,
+                                       s->destination_port, s->lifetime, body, s->body_len, buffer, room, answer);
+    for (size_t i = 0; i < closed; i++)
+        allow(lent[i], PROT_READ | PROT_WRITE);
+    expect(got, verdict, "build: verdict");
+    expect(*answer, length, "build: length");
+    for (size_t i = 0; i < 5; i++)
+        guards(lent[i]);
+    unchanged(&first, s->source);
+    unchanged(&second, s->destination);
+    unchanged(&third, s->body);
+    unchanged(&fourth, want);
+}
+
+/* Builds a packet in a buffer of so many bytes, and checks verdict, length and every byte. Leaves the buffer in p, and
+ * answers the packet's length. */
+static size_t build_status(const struct status *s, size_t room)
+{
+    static uint8_t was[SPACE], want[SPACE];
+    unsigned verdict = ruled_status(s, room);
+    for (size_t i = 0; i < room; i++)
+        want[i] = was[i] = (uint8_t)(i * 29 + room);
+    size_t length = verdict ? 0 : lay_status(want, s);
+    for (int lay = 0; lay < LAYS; lay++)
+        call_build(s, lay, was, want, room, verdict, length);
+    if (room > 0)
+        memcpy(p, fourth.lent, room);
+    return length;
+}
+
+/* Looks at a packet in p that was built in a buffer of so many bytes: it is good, alone and before what is behind it,
+ * mending changes nothing, and it says what it was built of. */
+static void look_at(const struct status *s, size_t len, size_t room)
+{
+    size_t size = s->source_len, start = size == 4 ? 20 : 40;
+    memcpy(q, p, room);
+    expect(judge(p, len), 0, "judge what was built");
+    expect(judge(p, room), 0, "and before a tail");
+    expect(mend(p, room), 0, "mend what was built");
+    check(memcmp(p, q, room) == 0, "mending changes nothing");
+    expect(start_of(p), start, "no options and no headers between");
+    expect(protocol_of(p), 17, "its protocol");
+    expect(start + message_of(p), len, "its length");
+    expect(word(p + start + 4), message_of(p), "its datagram's length");
+    expect(p[size == 4 ? 8 : 7], s->lifetime, "its lifetime");
+    check(memcmp(p + start - 2 * size, s->source, size) == 0, "its source");
+    check(memcmp(p + start - size, s->destination, size) == 0, "its destination");
+    expect(word(p + start), s->source_port, "its source port");
+    expect(word(p + start + 2), s->destination_port, "its destination port");
+    expect(len - body_of(p), s->body_len, "its body's length");
+    check(s->body_len == 0 || memcmp(p + body_of(p), s->body, s->body_len) == 0, "its body");
+    check(word(p + start + 6) != 0, "its sum isn't left out");
+}
+
+/* Builds a packet that is no refused one, and looks at it. */
+static size_t good_status(const struct status *s, size_t room)
+{
+    size_t len = build_status(s, room);
+    if (len > 0)
+        look_at(s, len, room);
+    return len;
+}
+
+/* A status from bytes that are made up, and the paper's. */
+static uint8_t sides[2][40], report[65536];
+
+static struct status any_status(int four, size_t body)
+{
+    size_t size = four ? 4 : 16;
+    for (size_t i = 0; i < 40; i++) {
+        sides[0][i] = (uint8_t)(i * 41 + body);
+        sides[1][i] = (uint8_t)(i * 53 + 3 * body + 1);
+    }
+    for (size_t i = 0; i < body; i++)
+        report[i] = (uint8_t)(i * i * 7 + body + 1);
+    return (struct status){sides[0], sides[1], report, size, size, body, 0x1388, 0xFEDC, 64};
+}
+
+static struct status paper_status(const uint8_t *body, size_t body_len)
+{
+    return (struct status){udp + 12, udp + 16, body, 4, 4, body_len, 5000, 5001, 64};
+}
+
+/* The paper's addresses, ports and data, by their bytes: its header has the flag don't-fragment, and these don't. Then
+ * its data whose sum comes to 0000, no data, and over IPv6 three bytes and such as come to 0000. */
+static void paper_statuses(void)
+{
+    static const uint8_t zero_sum[2] = {0x56, 0xB0}, one[16] = {[15] = 1}, six_zero[5] = {0x48, 0x69, 0x90, 0x58, 0};
+    static const uint8_t six[51] = {
+        0x60, 0, 0, 0, 0, 11, 17, 64, [23] = 1, [39] = 1, 0x13, 0x88, 0x13, 0x89, 0, 11, 0x6F, 0x5C, 0x48, 0x69, 0x21,
+    };
+    struct status s = paper_status(udp + 28, 2);
+    uint8_t want[30];
+    memcpy(want, udp, 30);
+    put(want + 6, 0);
+    put(want + 10, 0xF8B6);
+    expect(good_status(&s, 30), 30, "the paper's packet");
+    check(memcmp(p, want, 30) == 0, "its bytes");
+    s = paper_status(zero_sum, 2);
+    expect(good_status(&s, 30), 30, "data 56 B0");
+    expect(word(p + 26), 0xFFFF, "comes to 0000, and FFFF is written");
+    s = paper_status(NULL, 0);
+    expect(good_status(&s, 40), 28, "no data");
+    expect(word(p + 26), 0x56B4, "its sum");
+    s = (struct status){one, one, (const uint8_t *)"Hi!", 16, 16, 3, 5000, 5001, 64};
+    expect(good_status(&s, 51), 51, "IPv6");
+    check(memcmp(p, six, 51) == 0, "its bytes");
+    s.body = six_zero;
+    s.body_len = 5;
+    expect(message_sum(six), 0xFFFF, "the bytes are right");
+    expect(good_status(&s, 60), 53, "IPv6 with a sum that comes to 0000");
+    expect(word(p + 46), 0xFFFF, "FFFF is written");
+}
+
+/* Bodies of each length up to 70, and around 1,400 and far past it, in buffers that fit, that lack bytes and that have
+ * more. */
+static void status_bodies(void)
+{
+    static const size_t longer[] = {255, 256, 257, 511, 512, 1023, 1024, 1397, 1398, 1399,
+                                    1400, 1401, 1402, 1403, 1428, 1448, 2048, 32768, 65507, 65535};
+    for (size_t i = 0; i < 2 * (71 + 20); i++) {
+        size_t body = i / 2 <= 70 ? i / 2 : longer[i / 2 - 71], len = (i % 2 ? 28 : 48) + body;
+        struct status s = any_status(i % 2, body);
+        const size_t rooms[] = {len, len + 1, len + 2, len + 3, len + 100, len - 1, len - 2, len - 8, len / 2, 1, 0};
+        for (size_t j = 0; j < sizeof rooms / sizeof *rooms; j++) {
+            size_t built = ruled_status(&s, rooms[j]) ? build_status(&s, rooms[j]) : good_status(&s, rooms[j]);
+            expect(built, body <= 1400 && rooms[j] >= len ? len : 0, "its length, or none");
+        }
+    }
+    struct status s = any_status(1, HIFROSTUM_BODY_MOST);
+    expect(good_status(&s, HIFROSTUM_PACKET_MOST - 20), 1428, "the longest over IPv4");
+    s = any_status(0, HIFROSTUM_BODY_MOST);
+    expect(good_status(&s, HIFROSTUM_PACKET_MOST), 1448, "the longest over IPv6");
+    s.body_len = HIFROSTUM_BODY_MOST + 1;
+    expect(build_status(&s, 2048), 0, "and a longer one");
+}
+
+/* Each two sizes of addresses, with each other fault and without. */
+static void status_pairings(void)
+{
+    static const size_t sizes[] = {0, 1, 3, 4, 5, 8, 15, 16, 17, 20, 32};
+    for (size_t i = 0; i < 11 * 11 * 2 * 2 * 3; i++) {
+        size_t from = sizes[i % 11], to = sizes[i / 11 % 11], wide = i / 121 % 2, spent = i / 242 % 2, room = i / 484;
+        struct status s = any_status(0, wide ? 1401 : 9);
+        s.source_len = from;
+        s.destination_len = to;
+        s.lifetime = spent ? 0 : 1;
+        size_t len = (from == 4 ? 28 : 48) + s.body_len;
+        build_status(&s, room == 0 ? len : room == 1 ? len - 1 : 0);
+    }
+}
+
+/* What can be wrong with a status, in the order of the refusals. Every set of these: the first decides. */
+static void status_faults(void)
+{
+    enum { FROM = 1, TO = 2, OTHER_FAMILY = 4, WIDE = 8, LIFELESS = 16, SMALL = 32, ALL = 64 };
+    for (unsigned faults = 0; faults < 2 * ALL; faults++) {
+        int four = faults / ALL;
+        struct status s = any_status(four, faults & WIDE ? 1401 : 1400);
+        s.destination_len = faults & OTHER_FAMILY ? 20 - s.source_len : s.source_len;
+        s.destination_len += faults & TO ? 1 : 0;
+        s.source_len -= faults & FROM ? 1 : 0;
+        s.lifetime = faults & LIFELESS ? 0 : 1;
+        size_t room = (four ? 28 : 48) + s.body_len - (faults & SMALL ? 1 : 0);
+        unsigned want = faults & (FROM | TO | OTHER_FAMILY | WIDE) ? 10
+                        : faults & LIFELESS                        ? 11
+                        : faults & SMALL                           ? 16
+                                                                   : 0;
+        expect(ruled_status(&s, room), want, "faults, and the first of them");
+        build_status(&s, room);
+    }
+}
+
+/* Every lifetime, and ports with each bit. */
+static void status_numbers(void)
+{
+    for (size_t i = 0; i < 2 * 256; i++) {
+        struct status s = any_status(i % 2, i / 2 % 5);
+        s.lifetime = (uint8_t)(i / 2);
+        s.source_port = (uint16_t)(i / 2 % 17 ? 1 << (i / 2 % 17 - 1) : 0);
+        s.destination_port = (uint16_t)(65535 - s.source_port);
+        expect(build_status(&s, 60), i / 2 ? (i % 2 ? 28 : 48) + i / 2 % 5 : 0, "a lifetime");
+    }
+}
+
+/* Sums that come to 0000, by the last whole word of the body, or by a port where there is none; and a header's. */
+static void status_zeros(void)
+{
+    for (size_t i = 0; i < 2 * 60; i++) {
+        size_t body = i < 116 ? i / 2 : 1400 - i % 4 / 2;
+        struct status s = any_status(i % 2, body);
+        size_t last = body < 2 ? 0 : (body - 2) / 2 * 2;
+        s.source_port = 0;
+        if (body >= 2)
+            put(report + last, 0);
+        lay_status(q, &s);
+        unsigned field = word(q + start_of(q) + 6);
+        if (body >= 2)
+            put(report + last, field);
+        else
+            s.source_port = (uint16_t)field;
+        good_status(&s, 1500);
+        expect(word(p + start_of(p) + 6), 0xFFFF, "a sum that comes to 0000");
+    }
+    for (size_t body = 0; body <= 1400; body += 100) {
+        struct status s = any_status(1, body);
+        put(sides[1] + 2, 0);
+        lay_status(q, &s);
+        put(sides[1] + 2, word(q + 10));
+        good_status(&s, 28 + body);
+        expect(word(p + 10), 0, "a header's field of 0000");
+    }
+}
+
+/* What is behind the packet lies in memory that can't be touched, and what is only read may be one. */
+static void status_places(void)
+{
+    for (size_t i = 0; i < 2 * 3 * 30; i++) {
+        struct status s = any_status(i % 2, i / 6 < 29 ? i / 6 : 1400);
+        size_t len = lay_status(q, &s), length = 77;
+        uint8_t *at = first.map + SPACE - len;
+        expect(hifrostum_build_udp(s.source, s.source_len, s.destination, s.destination_len, s.source_port,
+                                   s.destination_port, s.lifetime, s.body, s.body_len, at, len + i / 2 % 3 * 1000,
+                                   &length),
+               0, "build before a wall");
+        expect(length, len, "its length");
+        check(memcmp(at, q, len) == 0, "its bytes");
+        /* one address twice, and a body that begins with it */
+        s.destination = s.source;
+        s.body = s.source;
+        s.body_len = s.source_len + i % 3;
+        len = lay_status(q, &s);
+        expect(hifrostum_build_udp(s.source, s.source_len, s.source, s.source_len, s.source_port, s.destination_port,
+                                   s.lifetime, s.source, s.body_len, p, 100, &length),
+               0, "build of bytes that overlap");
+        expect(length, len, "its length");
+        check(memcmp(p, q, len) == 0, "its bytes");
+    }
+}
+
+/* What was built is a packet as any other: each call on it, and a capture of such. */
+static void status_relayed(void)
+{
+    static const size_t bodies[] = {0, 1, 2, 33, 128, 1400};
+    static uint8_t packets[SPACE], verdicts[16];
+    size_t end = 5;
+    memcpy(packets, glr, 5);
+    for (size_t i = 0; i < 2 * 6; i++) {
+        struct status s = any_status(i % 2, bodies[i / 2]);
+        size_t len = good_status(&s, 1500);
+        put(packets + end, len);
+        memcpy(packets + end + 2, p, len);
+        end += 2 + len;
+        if (s.body_len <= sizeof new_bytes)
+            each_call(len);
+    }
+    capture(packets, end, verdicts, 16, 0, 12);
+    for (size_t i = 0; i < 12; i++)
+        expect(verdicts[i], 0, "a record that was built");
+}
+
 static void captures(void)
 {
     static uint8_t verdicts[9];
@@ -2828,6 +3145,7 @@ int main(void)
     build(&second);
     build(&third);
     build(&fourth);
+    build(&fifth);
     fields();
     group("field");
     updates();
@@ -2898,6 +3216,15 @@ int main(void)
     group("judge_fragments");
     anyhow();
     group("judge_fragments of messages cut anywhere");
+    paper_statuses();
+    status_bodies();
+    status_pairings();
+    status_faults();
+    status_numbers();
+    status_zeros();
+    status_places();
+    status_relayed();
+    group("build_udp");
     captures();
     long_capture();
     group("judge_capture");

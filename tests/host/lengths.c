@@ -5,9 +5,10 @@
  * The block that is summed has BLOCK bytes, and the chain CHAIN or a few more: over 2^32, or fewer in an
  * emulator. LIST is 1 if a chain of 2^64 bytes is tried too, and 0 if its long list would take too long.
  *
- * Packets, addresses, prefixes, captures, fragments and their list lie before memory that can't be
- * touched: with a length of more than 2^32 a call that looked at a byte behind them would end the
- * program. Each such length is chosen so that its low 32 bits would give another answer.
+ * Packets, addresses, prefixes, captures, fragments and their list, bodies and buffers to build in lie
+ * before memory that can't be touched: with a length of more than 2^32 a call that looked at a byte
+ * behind them would end the program. Each such length is chosen so that its low 32 bits would give
+ * another answer.
  */
 #define _GNU_SOURCE
 #include <stdio.h>
@@ -194,6 +195,70 @@ static void fragments(void)
     expect(hifrostum_judge_fragments(map, over + 26, list, 2), 5, "a damaged header behind 2^32");
 }
 
+/* The lengths of one call that builds a packet, of parts that lie before walls, and what is answered. */
+struct build {
+    size_t from_len, to_len, body_len, buffer_len;
+    uint8_t lifetime, verdict;
+    const char *what;
+};
+
+/* Builds the packet wanted, whose body is "Hi" and whose addresses have n bytes, with lengths that may be too long by a
+ * step. The low bits of a buffer's length say that the packet doesn't fit, and those of an address's or a body's that
+ * these do. A refused call leaves the buffer, and the packet's length is 0. */
+static void build(const uint8_t *want, size_t len, size_t n)
+{
+    const size_t steps[] = {1 << 8, 1 << 16, over, over << 1, (size_t)1 << 63, SIZE_MAX - over + 1};
+    uint8_t *from = before_wall(n), *to = before_wall(n), *body = before_wall(2), *buffer = before_wall(len);
+    memcpy(from, want + len - 10 - 2 * n, n);
+    memcpy(to, want + len - 10 - n, n);
+    memcpy(body, want + len - 2, 2);
+    for (size_t i = 0; i < sizeof steps / sizeof *steps; i++) {
+        size_t step = steps[i], long_body = 2 + (step < 1400 ? over : step);
+        const struct build calls[] = {
+            {n, n, 2, step + 3, 0, 11, "a lifetime of 0 in a long buffer"},
+            {n + step, n, 2, step + 3, 64, 10, "a source that is too long"},
+            {n, n + step, 2, step + 3, 64, 10, "a destination that is too long"},
+            {n + step, n + step, 2, step + 3, 64, 10, "both"},
+            {n + step, n + step, 2, len, 0, 10, "both, and a lifetime of 0"},
+            {n, n, SIZE_MAX, SIZE_MAX, 64, 10, "the longest body"},
+            {n, n, SIZE_MAX - len + 3, SIZE_MAX, 64, 10, "a body with which the packet has 2^64 bytes"},
+            {n, n, SIZE_MAX - 7, len, 64, 10, "a body with which the datagram has 2^64 bytes"},
+            {n, n, 1400 + step, SIZE_MAX, 64, 10, "a body that is too long by as much"},
+            {n, n, long_body, len, 64, 10, "a body that is too long"},
+            {n, n, long_body, len, 0, 10, "and a lifetime of 0"},
+            {n, n, 2, 0, 64, 16, "no buffer"},
+            {n, n, 2, len - 1, 64, 16, "a buffer of one byte less"},
+            {n, n, 2, step + 3, 64, 0, "a long buffer"},
+            {n, n, 2, SIZE_MAX, 64, 0, "the longest buffer"},
+        };
+        for (const struct build *c = calls; c < calls + sizeof calls / sizeof *calls; c++) {
+            size_t length = SIZE_MAX, kept = 0;
+            memset(buffer, 0xA5, len);
+            expect(hifrostum_build_udp(from, c->from_len, to, c->to_len, 5000, 5001, c->lifetime, body, c->body_len,
+                                       buffer, c->buffer_len, &length),
+                   c->verdict, c->what);
+            expect(length, c->verdict ? 0 : len, "the packet's length, or 0");
+            for (size_t j = 0; j < len; j++)
+                kept += buffer[j] == (c->verdict ? 0xA5 : want[j]);
+            expect(kept, len, "the packet, or what was there");
+        }
+    }
+}
+
+/* The rules' UDP packet without its flag, and one of ::1 to itself. */
+static void builds(void)
+{
+    static const uint8_t four[30] = {
+        0x45, 0, 0, 0x1E, 0, 0, 0, 0, 0x40, 0x11, 0xF8, 0xB6, 0xC0, 0xA8, 0, 1, 0xC0, 0xA8, 0, 0xC7,
+        0x13, 0x88, 0x13, 0x89, 0, 0x0A, 0x0E, 0x47, 0x48, 0x69,
+    };
+    static const uint8_t six[50] = {
+        0x60, 0, 0, 0, 0, 10, 17, 64, [23] = 1, [39] = 1, 0x13, 0x88, 0x13, 0x89, 0, 10, 0x90, 0x5E, 0x48, 0x69,
+    };
+    build(four, 30, 4);
+    build(six, 50, 16);
+}
+
 /* A capture whose first record is too long. The low 32 bits say 5 bytes: no record. */
 static void captures(void)
 {
@@ -330,6 +395,7 @@ int main(int argc, char **argv)
     packets();
     headers_between();
     fragments();
+    builds();
     captures();
     chains();
     block(len);

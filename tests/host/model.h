@@ -1,8 +1,9 @@
 /* A model of the rules for packets whose IP header and declared length are right: over IPv6 a walk past the headers
  * between, and the rules paper's formulas over the covered block, which is laid out whole, pseudo-header first, and
  * summed byte by byte. It finds each message from the packet's bytes alone, and never asks the library. Fragments,
- * whose headers may be wrong in any way, are put together into one packet, which is judged. A packet that is to be built
- * is laid out field by field, as RFC 791, 8200 and 768 have it. It counts how often it takes the rare branches. */
+ * whose headers may be wrong in any way, are put together into one packet, which is judged. A packet that is to be
+ * built is laid out field by field, as RFC 791, 8200 and 768 have it. The model counts how often it takes the rare
+ * branches. */
 #ifndef MODEL_H
 #define MODEL_H
 

@@ -1,4 +1,4 @@
-//! Safe calls to `libhifrostum.a`, which judges, mends and edits the checksums of IP packets.
+//! Safe calls to `libhifrostum.a`, which judges, mends and edits the checksums of IP packets, and builds UDP packets.
 //!
 //! Each function is the C function of the same name with slices for pointers and lengths, and a
 //! [`Verdict`] for its number. A slice is never too short, and what one call writes is borrowed by it
@@ -58,6 +58,20 @@ mod c {
             bytes: *const u8,
             bytes_len: usize,
         ) -> u8;
+        pub fn hifrostum_build_udp(
+            source: *const u8,
+            source_len: usize,
+            destination: *const u8,
+            destination_len: usize,
+            source_port: u16,
+            destination_port: u16,
+            lifetime: u8,
+            body: *const u8,
+            body_len: usize,
+            buffer: *mut u8,
+            buffer_len: usize,
+            length: *mut usize,
+        ) -> u8;
         pub fn hifrostum_judge_capture(
             capture: *const u8,
             len: usize,
@@ -112,9 +126,9 @@ pub enum Verdict {
     Missing = 8,
     /// The message doesn't pass.
     MessageSum = 9,
-    /// A piece, length, stretch, address, prefix or list of fragments doesn't fit.
+    /// A piece, length, stretch, address, prefix, list of fragments or body doesn't fit.
     Place = 10,
-    /// The lifetime is 0 or 1.
+    /// The lifetime is 0 or 1; for [`build_udp`], 0.
     Spent = 11,
     /// An ICMP message that is, or would be, all zeros.
     Blank = 12,
@@ -124,7 +138,7 @@ pub enum Verdict {
     Edition = 14,
     /// A capture with a damaged record.
     Record = 15,
-    /// More records than places for verdicts.
+    /// More records than places for verdicts; for [`build_udp`], a buffer shorter than the packet.
     Room = 16,
 }
 
@@ -213,6 +227,29 @@ pub struct Fragment {
     pub offset: usize,
     /// How many bytes there are from there on, a tail among them.
     pub length: usize,
+}
+
+/// The longest body that [`build_udp`] takes.
+pub const BODY_MOST: usize = 1400;
+
+/// The longest packet that [`build_udp`] builds: a buffer of so many bytes is enough for any. Over IPv4 1,428 are.
+pub const PACKET_MOST: usize = 1448;
+
+/// What [`build_udp`] builds a packet of. Each part has its name, so that no port or address is taken for another.
+#[derive(Clone, Copy, Debug, PartialEq, Eq, Hash)]
+pub struct Udp<'a> {
+    /// Where it comes from: 4 bytes for IPv4, 16 for IPv6, as `octets` of the standard library's addresses gives.
+    pub source: &'a [u8],
+    /// Where it goes: as many bytes.
+    pub destination: &'a [u8],
+    /// The port where it comes from.
+    pub source_port: u16,
+    /// The port where it goes.
+    pub destination_port: u16,
+    /// The lifetime (time to live, hop limit), not 0.
+    pub lifetime: u8,
+    /// The data, up to [`BODY_MOST`] bytes.
+    pub body: &'a [u8],
 }
 
 /// The verdict on a packet. Changes nothing.
@@ -344,6 +381,62 @@ pub fn set_stretch(packet: &mut [u8], place: usize, bytes: &[u8]) -> Verdict {
     Verdict::answered(unsafe {
         c::hifrostum_set_stretch(to, len, place, bytes.as_ptr(), bytes.len())
     })
+}
+
+/// Builds a UDP packet in the buffer's first bytes, and answers it: the body and 28 bytes over IPv4, 48 over IPv6. The
+/// buffer's bytes behind it stay.
+///
+/// The IPv4 header has no options, and its service byte, identification, flags and fragment offset are 0, as IPv6's class
+/// and flow label are. The sums are fresh, and UDP's is never left out: FFFF is written where it comes to 0000. So [`judge`]
+/// says `Good` of every packet built, and [`mend`] leaves it as it is. IPv4 packets all have the identification 0: keep them
+/// so short that no link on the way cuts them, or a station may mix their fragments up.
+///
+/// Refuses, and changes no byte, with
+///
+/// - `Place` unless both addresses have 4 bytes or both have 16, and for a body of more than 1,400;
+/// - then `Spent` a lifetime of 0, and
+/// - then `Room` a buffer that is shorter than the packet.
+///
+/// ```
+/// use hifrostum::{build_udp, judge, Udp, Verdict, PACKET_MOST};
+/// use std::net::Ipv4Addr;
+/// let (hut, station) = (Ipv4Addr::new(192, 168, 0, 1), Ipv4Addr::new(192, 168, 0, 199));
+/// let mut status = Udp {
+///     source: &hut.octets(),
+///     destination: &station.octets(),
+///     source_port: 5000,
+///     destination_port: 5001,
+///     lifetime: 64,
+///     body: b"Hi",
+/// };
+/// let mut buffer = [0; PACKET_MOST];
+/// let packet = build_udp(&status, &mut buffer)?;
+/// assert_eq!(packet.len(), 30);
+/// assert_eq!(packet[26..], [0x0E, 0x47, b'H', b'i']);
+/// assert_eq!(judge(packet), Verdict::Good);
+/// status.lifetime = 0;
+/// assert_eq!(build_udp(&status, &mut buffer), Err(Verdict::Spent));
+/// # Ok::<(), Verdict>(())
+/// ```
+pub fn build_udp<'b>(udp: &Udp<'_>, buffer: &'b mut [u8]) -> Result<&'b mut [u8], Verdict> {
+    let mut length = 0;
+    let number = unsafe {
+        c::hifrostum_build_udp(
+            udp.source.as_ptr(),
+            udp.source.len(),
+            udp.destination.as_ptr(),
+            udp.destination.len(),
+            udp.source_port,
+            udp.destination_port,
+            udp.lifetime,
+            udp.body.as_ptr(),
+            udp.body.len(),
+            buffer.as_mut_ptr(),
+            buffer.len(),
+            &mut length,
+        )
+    };
+    done(number, &mut buffer[..length])
 }
 
 /// Judges each record of a capture, writes one verdict number a record, in order, and answers the

@@ -599,6 +599,161 @@ fn fragments_of_a_trailing_area() {
     assert_eq!(judge_fragments(&empty, &[at(0, 20)]), Verdict::Shape);
 }
 
+const HUT: [u8; 16] = [0xFD, 1, 2, 3, 4, 5, 0, 1, 0, 0, 0, 0, 0, 0, 0x12, 0x34];
+const STATION: [u8; 16] = [0x20, 1, 0x0D, 0xB8, 0, 9, 0, 0, 0, 0, 0, 0, 0, 0, 0, 9];
+
+/// A status over IPv4 or IPv6: addresses of so many bytes.
+fn status(size: usize, body: &[u8]) -> Udp<'_> {
+    Udp {
+        source: &HUT[..size],
+        destination: &STATION[..size],
+        source_port: 0x1388,
+        destination_port: 0x1389,
+        lifetime: 64,
+        body,
+    }
+}
+
+/// The packet as RFC 791 or 8200 and RFC 768 have it. Only its sums are the library's, by `field`.
+fn laid(udp: &Udp<'_>) -> Vec<u8> {
+    let length = (8 + udp.body.len() as u16).to_be_bytes();
+    let ports = [udp.source_port, udp.destination_port].map(u16::to_be_bytes);
+    let mut datagram = [&ports.concat()[..], &length, &[0, 0], udp.body].concat();
+    let pseudo = [udp.source, udp.destination, &length, &[0, 17], &datagram].concat();
+    let Field(sum) = field(&pseudo);
+    datagram[6..8].copy_from_slice(&if sum == 0 { 0xFFFF } else { sum }.to_be_bytes());
+    let (source, destination) = (udp.source, udp.destination);
+    if source.len() == 16 {
+        let fixed = [0x60, 0, 0, 0, length[0], length[1], 17, udp.lifetime];
+        return [&fixed[..], source, destination, &datagram].concat();
+    }
+    let [high, low] = (20 + datagram.len() as u16).to_be_bytes();
+    let fixed = [0x45, 0, high, low, 0, 0, 0, 0, udp.lifetime, 17, 0, 0];
+    let mut packet = [&fixed[..], source, destination, &datagram].concat();
+    head(&mut packet);
+    packet
+}
+
+/// The rules' UDP packet, but for its flag, byte by byte; with the data whose sum comes to 0000; and over IPv6.
+#[test]
+fn packets_built() {
+    let (mut want, mut buffer) = (UDP, [0xA5; 64]);
+    (want[6], want[10]) = (0, 0xF8);
+    let mut udp = Udp {
+        source: &UDP[12..16],
+        destination: &UDP[16..20],
+        body: b"Hi",
+        ..status(4, b"")
+    };
+    assert_eq!(build_udp(&udp, &mut buffer), Ok(&mut want[..]));
+    assert_eq!(buffer[..30], want);
+    assert_eq!(buffer[30..], [0xA5; 34]);
+    udp.body = &[0x56, 0xB0];
+    let packet = build_udp(&udp, &mut buffer).unwrap();
+    assert_eq!(packet[26..], [0xFF, 0xFF, 0x56, 0xB0]);
+    assert_eq!(judge(packet), Verdict::Good);
+    let one = [0, 0, 0, 0, 0, 0, 0, 0, 0, 0, 0, 0, 0, 0, 0, 1];
+    (udp.source, udp.destination, udp.body) = (&one, &one, b"Hi!");
+    assert_eq!(build_udp(&udp, &mut buffer), Ok(&mut behind(&[])[..]));
+    assert_eq!(buffer[51..], [0xA5; 13]);
+    udp.body = &[0x48, 0x69, 0x90, 0x58, 0];
+    let packet = build_udp(&udp, &mut buffer).unwrap();
+    assert_eq!(packet[46..48], [0xFF, 0xFF]);
+    assert_eq!(judge(packet), Verdict::Good);
+}
+
+/// Bodies of every length in both families: the packet is what the RFCs have it, judged good, left by the mender, and
+/// taken by edits. Bytes behind it stay, and a buffer of one byte less is refused.
+#[test]
+fn bodies_of_every_length() {
+    let text: Vec<u8> = (0..=BODY_MOST).map(|i| (i * 37 + 11) as u8).collect();
+    for (size, most) in [(4, PACKET_MOST - 20), (16, PACKET_MOST)] {
+        for len in 0..=BODY_MOST {
+            let udp = status(size, &text[..len]);
+            let (want, mut buffer) = (laid(&udp), [0xA5; PACKET_MOST + 3]);
+            assert_eq!(want.len(), most - BODY_MOST + len);
+            let packet = build_udp(&udp, &mut buffer[..want.len()]).unwrap();
+            assert_eq!((judge(packet), &packet[..]), (Verdict::Good, &want[..]));
+            assert_eq!(mend(packet), Verdict::Good);
+            assert_eq!(packet, want);
+            assert_eq!(packet[want.len() - len..], text[..len]);
+            assert_eq!(lower_lifetime(packet), Verdict::Good);
+            assert_eq!(set_stretch(packet, len, b""), Verdict::Good);
+            assert_eq!(judge(packet), Verdict::Good);
+            let was = buffer;
+            let short = build_udp(&udp, &mut buffer[..want.len() - 1]);
+            assert_eq!(short, Err(Verdict::Room));
+            assert_eq!(buffer, was);
+            assert_eq!(build_udp(&udp, &mut buffer).unwrap(), want);
+            assert!(buffer[want.len()..].iter().all(|byte| *byte == 0xA5));
+        }
+        let mut buffer = [0xA5; 2 * PACKET_MOST];
+        let refused = build_udp(&status(size, &text), &mut buffer);
+        assert_eq!(refused, Err(Verdict::Place));
+        assert_eq!(buffer, [0xA5; 2 * PACKET_MOST]);
+    }
+}
+
+/// Addresses of each two sizes, a lifetime of 0 and of 1, a body that fits and one that doesn't, with room and without:
+/// place, spent and room in this order.
+#[test]
+fn refused_builds() {
+    let (bytes, text) = ([7; 32], [0x20; BODY_MOST + 1]);
+    let sizes = [0, 1, 3, 4, 5, 15, 16, 17, 32];
+    for (from, to) in sizes.iter().flat_map(|from| sizes.map(|to| (*from, to))) {
+        for faults in 0..8 {
+            let (wide, spent, small) = (faults & 1, faults >> 1 & 1, faults >> 2);
+            let udp = Udp {
+                source: &bytes[..from],
+                destination: &bytes[..to],
+                lifetime: 1 - spent as u8,
+                ..status(4, &text[..BODY_MOST + wide])
+            };
+            let right = from == to && (from == 4 || from == 16) && wide == 0;
+            let length = if from == 4 { 28 } else { 48 } + udp.body.len();
+            let mut buffer = vec![0xA5; length - small];
+            let want = match (right, spent, small) {
+                (false, _, _) => Err(Verdict::Place),
+                (true, 1, _) => Err(Verdict::Spent),
+                (true, _, 1) => Err(Verdict::Room),
+                _ => Ok(length),
+            };
+            let got = build_udp(&udp, &mut buffer).map(|packet| packet.len());
+            assert_eq!(got, want);
+            if got.is_err() {
+                assert!(buffer.iter().all(|byte| *byte == 0xA5));
+            } else {
+                assert_eq!(judge(&buffer), Verdict::Good);
+            }
+        }
+    }
+    assert_eq!(build_udp(&status(4, b""), &mut []), Err(Verdict::Room));
+    assert_eq!(build_udp(&status(0, b""), &mut []), Err(Verdict::Place));
+}
+
+/// Ports, addresses and the lifetime stand in their own places, and none in another's.
+#[test]
+fn a_packet_reads_back() {
+    for (size, at, lifetime_at) in [(4, 12, 8), (16, 8, 7)] {
+        for (from, to) in [(0, 0xFFFF), (1, 256), (0x1234, 0x5678), (0xFFFF, 0)] {
+            for lifetime in [1, 2, 127, 128, 255] {
+                let mut udp = status(size, b"altitude 1200 metres");
+                (udp.source_port, udp.destination_port, udp.lifetime) = (from, to, lifetime);
+                let mut buffer = [0; PACKET_MOST];
+                let packet = build_udp(&udp, &mut buffer).unwrap();
+                let message = &packet[at + 2 * size..];
+                assert_eq!(packet[lifetime_at], lifetime);
+                assert_eq!(packet[at..at + size], HUT[..size]);
+                assert_eq!(packet[at + size..at + 2 * size], STATION[..size]);
+                assert_eq!(message[..2], from.to_be_bytes());
+                assert_eq!(message[2..4], to.to_be_bytes());
+                assert_eq!(message[8..], *udp.body);
+                assert_eq!(judge(packet), Verdict::Good);
+            }
+        }
+    }
+}
+
 /// A field at FFFF where the fresh one is 0000: an edit leaves what the mender writes.
 #[test]
 fn no_negative_zero() {
