@@ -2,6 +2,8 @@
 //
 // The bytes are written in the order in which the RFCs have them, with sums of 0000, and then the sums. A refused call changes
 // no byte, and what lies behind the packet in the buffer stays.
+#![tactic(auto)]
+
 ghost use Rattle.std.specs.Prelude.{◌≡◌, true, ◌+◌, ◌/◌, ◌%◌, ◌≤◌, length};
 ghost use Rattle.sums.specs.Fold.{fold, swap, field_of};
 ghost use Rattle.wire.specs.Bytes.{put};
@@ -19,7 +21,7 @@ use wire::{Family, Message, UDP_HEADER};
 const MOST: usize = 1400;
 
 // The verdict, good, place, spent or room, and how many bytes the packet has: 0 beside a refusal.
-#[derive(Drop)]
+#[derive(Clone, Copy)]
 pub struct Built {
     pub verdict: Verdict,
     pub length: usize,

@@ -2,6 +2,8 @@
 //
 // Any bytes may be handed in. What a record's head says stands in `head_at` alone, and what a record is in `record_at`;
 // the passes over a capture, and whoever else walks one, go by them.
+#![tactic(auto)]
+
 ghost use Rattle.std.specs.Prelude.{◌≡◌, ◌≤◌, length, drop};
 ghost use Rattle.wire.specs.Bytes.{put};
 ghost use Rattle.capture.specs.Records.{other_mark, other_edition, head_of, record_at, records_in};
@@ -29,7 +31,7 @@ pub const RECORD_HEAD: usize = 2;
 pub const MOST: usize = 2048;
 
 // What a record's head says: nothing is there, something is damaged, or a packet of so many bytes follows.
-#[derive(Drop)]
+#[derive(Clone, Copy)]
 pub enum Head {
     End,
     Damaged,
@@ -38,7 +40,7 @@ pub enum Head {
 
 // What stands at a place of a capture: a whole record, with the start and end of its packet, or the capture's end, or
 // something damaged.
-#[derive(Drop)]
+#[derive(Clone, Copy)]
 pub enum Found {
     Record { start: usize, end: usize },
     End,
@@ -46,14 +48,14 @@ pub enum Found {
 }
 
 // How many records a capture has, unless it is damaged.
-#[derive(Drop)]
+#[derive(Clone, Copy)]
 pub enum Counted {
     Whole(usize),
     Damaged,
 }
 
 // The verdict on a capture as a whole, and how many records were judged: 0 beside a refusal.
-#[derive(Drop)]
+#[derive(Clone, Copy)]
 pub struct Judged {
     pub verdict: Verdict,
     pub count: usize,

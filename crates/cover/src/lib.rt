@@ -2,6 +2,8 @@
 //
 // They are counted low byte first and never folded: that is 256 times the total, for its fold. Headers and addresses
 // are short, so they are added up in straight lines.
+#![tactic(auto)]
+
 ghost use Rattle.std.specs.Prelude.{◌≡◌, ◌+◌, ◌*◌, ◌-◌, ◌%◌, ◌≤◌, length};
 ghost use Rattle.sums.specs.Total.{total};
 ghost use Rattle.sums.specs.Fold.{fold};

@@ -8,6 +8,8 @@
 // edits find the message themselves and hand it to one function, which makes the tests that are left: the compiler then
 // takes `outer`, `walk` and `inner` in, and no message is built in memory. Whatever is read is read before the first
 // write.
+#![tactic(auto)]
+
 mod address;
 mod lifetime;
 mod stretch;

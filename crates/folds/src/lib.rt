@@ -1,6 +1,8 @@
 // Folds, fields and partial sums: RFC 1071's sum of some bytes, joined sums, and RFC 1624's update.
 //
 // Every public function takes any input, but for `join_within`, and its promise is one equation.
+#![tactic(auto)]
+
 ghost use Rattle.std.specs.Prelude.{◌≡◌, ◌+◌, ◌≤◌};
 ghost use Rattle.sums.specs.Total.{odd, weigh};
 ghost use Rattle.sums.specs.Fold.{fold, field_of};

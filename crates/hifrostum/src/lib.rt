@@ -3,6 +3,8 @@
 // A slice is a pointer and a length. Any bytes may be lent, and every call ends and answers by the numbers of the
 // rules paper. A refused call changes no lent byte, and sets to 0 what it hands back through count, fold and length,
 // but for a join, which hands back the left sum.
+#![tactic(auto)]
+
 ghost use Rattle.std.specs.Prelude.{◌≡◌};
 ghost use Rattle.verdicts.specs.Numbers.{number_of};
 ghost use Rattle.sums.specs.Total.{total};

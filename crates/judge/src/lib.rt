@@ -1,6 +1,8 @@
 // The verdict on a packet: whether its sums are right, and if not, what is wrong with it first.
 //
 // Any bytes may be judged. Nothing is changed, nothing of the tail is read, and each covered byte is summed once.
+#![tactic(auto)]
+
 ghost use Rattle.std.specs.Prelude.{◌≡◌};
 ghost use Rattle.verdicts.specs.Numbers.{number_of};
 ghost use Rattle.wire.specs.Outer.{outer_of};

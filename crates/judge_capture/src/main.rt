@@ -1,6 +1,8 @@
 // Judges a capture on standard input: a line for each whole record as soon as it is there, and the totals at the end.
 //
 // What is printed, and when to stop, is decided by the crate `lines`. Here it is only read and written.
+#![tactic(auto)]
+
 ghost use Rattle.std.specs.Prelude.{◌≤◌};
 ghost use Rattle.io.specs.Counts.{IsPrefixLen};
 
@@ -8,13 +10,13 @@ use libc::{STDIN_FILENO, STDOUT_FILENO};
 use lines::State;
 
 // How many bytes were read: fewer than wanted only at the input's end, unless a read failed.
-#[derive(Drop)]
+#[derive(Clone, Copy)]
 struct Got {
     count: usize,
     failed: bool,
 }
 
-#[derive(Drop)]
+#[derive(Clone, Copy)]
 enum Step {
     On(State),
     Done,

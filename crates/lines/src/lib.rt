@@ -3,6 +3,8 @@
 // A program asks `want` how many bytes to read next, reads them, and hands `feed` what it got: fewer than wanted means
 // that the input ended there. `feed` answers the next state and at most one line to print at once. When `want` is 0,
 // the program is done.
+#![tactic(auto)]
+
 mod text;
 
 ghost use Rattle.std.specs.Prelude.{◌≡◌, ◌+◌, ◌≤◌, length};
@@ -26,7 +28,7 @@ pub const LINE: usize = 128;
 const LARGEST: u64 = 18446744073709551615;
 
 // What is read next: the capture's head, a record's head, its packet of so many bytes, or nothing more.
-#[derive(Drop)]
+#[derive(Clone, Copy)]
 pub enum Phase {
     CaptureHead,
     RecordHead,
@@ -35,7 +37,7 @@ pub enum Phase {
 }
 
 // The records so far, and how many of them were good, unsummed and refused.
-#[derive(Drop)]
+#[derive(Clone, Copy)]
 pub struct Tally {
     pub records: u64,
     pub good: u64,
@@ -43,13 +45,13 @@ pub struct Tally {
     pub refused: u64,
 }
 
-#[derive(Drop)]
+#[derive(Clone, Copy)]
 pub struct State {
     pub phase: Phase,
     pub tally: Tally,
 }
 
-#[derive(Drop)]
+#[derive(Clone, Copy)]
 enum Line {
     Nothing,
     Judged { number: u64, verdict: u8 },
@@ -57,14 +59,14 @@ enum Line {
     Stopped { verdict: u8, after: u64 },
 }
 
-#[derive(Drop)]
+#[derive(Clone, Copy)]
 struct Decided {
     state: State,
     line: Line,
 }
 
 // The next state, and how many bytes of the lent buffer are to be printed.
-#[derive(Drop)]
+#[derive(Clone, Copy)]
 pub struct Fed {
     pub state: State,
     pub written: usize,

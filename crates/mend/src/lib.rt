@@ -2,6 +2,8 @@
 //
 // A mended packet is judged good whatever its bytes say, so mend only what was made or checked here: a relay that
 // mends what it received puts a good sum on damaged bytes. Fields are worked out and written low byte first.
+#![tactic(auto)]
+
 ghost use Rattle.std.specs.Prelude.{◌≡◌, true, ◌&&◌, ◌+◌, ◌%◌, ◌≤◌, eqb, length};
 ghost use Rattle.sums.specs.Total.{weigh, total};
 ghost use Rattle.sums.specs.Fold.{fold, swap};

@@ -3,6 +3,8 @@
 // The word behind the prefix takes up what the exchange changes, so the address keeps its class modulo 65535 and every
 // sum that covers it stays as it was: right stays right, wrong stays wrong, and no field is written. A refused exchange
 // changes no byte. Numbers are read and written low byte first, as in the other edits.
+#![tactic(auto)]
+
 ghost use Rattle.std.specs.Prelude.{◌≡◌, false, ◌+◌, ◌≤◌, length};
 ghost use Rattle.wire.specs.Bytes.{put};
 ghost use Rattle.wire.specs.Outer.{four};

@@ -1,5 +1,7 @@
 // What the edits have in common: UDP over IPv6 without a sum, which all but the lifetime refuse, whether ICMP is blank,
 // and fields updated and written.
+#![tactic(auto)]
+
 mod blank;
 mod update;
 

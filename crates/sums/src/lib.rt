@@ -3,6 +3,8 @@
 //
 // A Fold is what 16-bit addition with end-around carry gives of some bytes, and a Field is its complement, which
 // packets carry: two types, so that neither is stored where the other belongs. The calls on them are those of `folds`.
+#![tactic(auto)]
+
 mod low;
 
 ghost use Rattle.std.specs.Prelude.{◌≡◌, ◌+◌, ◌%◌, ◌<◌};
@@ -11,21 +13,21 @@ ghost use Rattle.sums.specs.Fold.{passes};
 pub use low::{add32, carry, le2, le4, le8, total};
 use verdicts::Verdict;
 
-#[derive(Drop)]
+#[derive(Clone, Copy)]
 pub struct Fold(pub u16);
 
-#[derive(Drop)]
+#[derive(Clone, Copy)]
 pub struct Field(pub u16);
 
 // A fold, and how many bytes were summed.
-#[derive(Drop)]
+#[derive(Clone, Copy)]
 pub struct Partial {
     pub fold: Fold,
     pub length: u64,
 }
 
 // The verdict on joined sums, good or place, and the sum beside it.
-#[derive(Drop)]
+#[derive(Clone, Copy)]
 pub struct Joined {
     pub verdict: Verdict,
     pub sum: Partial,

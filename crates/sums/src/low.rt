@@ -68,7 +68,7 @@ fn wide(x: u8) -> u64
 }
 
 // A total, and a carry out of it that is still to be added.
-#[derive(Drop)]
+#[derive(Clone, Copy)]
 struct Carried {
     n: u64,
     c: u64,

@@ -33,7 +33,7 @@ const LEFT: u8 = 1;
 
 const AGAIN: u8 = 2;
 
-#[derive(Drop)]
+#[derive(Clone, Copy)]
 pub struct Case {
     pub operation: u8,
     pub source: u8,
@@ -42,7 +42,7 @@ pub struct Case {
     pub two: usize,
 }
 
-#[derive(Drop)]
+#[derive(Clone, Copy)]
 pub enum Next {
     Case(Case),
     End,
@@ -50,7 +50,7 @@ pub enum Next {
 }
 
 // How long the present buffer is, and the last that was given.
-#[derive(Drop)]
+#[derive(Clone, Copy)]
 pub struct Sizes {
     pub buffer: usize,
     pub given: usize,

@@ -3,6 +3,8 @@
 //
 // The answers are held to those of the second implementation. What each function answers is proved where it stands; of
 // this program it is proved that nothing in it goes wrong.
+#![tactic(auto)]
+
 mod answers;
 mod cases;
 mod operation;
@@ -12,7 +14,7 @@ use answers::answer;
 use cases::{LARGEST, Next, Sizes, lay, next_case, payloads};
 use print::print;
 
-#[derive(Drop)]
+#[derive(Clone, Copy)]
 enum Step {
     On(Sizes),
     Done,

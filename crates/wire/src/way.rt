@@ -31,7 +31,7 @@ const UNIT: usize = 8;
 const MOST: usize = 8;
 
 // What stands at a place: a header that is refused, one that is passed, or the message.
-#[derive(Drop)]
+#[derive(Clone, Copy)]
 enum Met {
     Refused(Verdict),
     Header,

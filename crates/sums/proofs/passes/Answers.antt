@@ -1,0 +1,7 @@
+-- `sums::passes` meets its contract.
+use Rattle.std.proofs.Common.{arith, rules}
+use Rattle.sums.proofs.Passing.{passes-less}
+use Rattle.sums.proofs.passes.Goals as goal
+
+pub returns : goal.returns
+returns c = passes-less _ _ (omega arith) c.wrapping_sub_u64.ensures.value
