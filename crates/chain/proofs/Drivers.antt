@@ -49,7 +49,7 @@ module _ (buffer : List ℕ) (short : length buffer ≤ longest) where
   driven-first s [] f h = f
   driven-first s (p ∷ ps) f h =
       by_cases (in_place s p)
-      (λ t. rw t (driven-first _ ps (first-joined s p f h.0 t) h.1))
+      (λ t. rw t (driven-first (join_of s (piece_of buffer p)).sum ps (first-joined s p f h.0 t) h.1))
       (λ t. rw t (driven-first s ps f h.1))
 
   -- whatever pieces come, and in whatever order: its sum is that of as many bytes as its length says

@@ -1,0 +1,6 @@
+-- `folds::aligned` meets its contract: the arm taken is the one that `swap_if` goes by.
+use borrow.Author.Rules.{rules}
+use Rattle.folds.proofs.aligned.Goals as goal
+
+pub returns-then-odd : goal.returns-then-odd
+returns-then-odd c = rw c.if-odd.true

@@ -1,0 +1,8 @@
+-- `folds::sum` meets its contract.
+use mathlib.Core.Path.{refl}
+use borrow.Author.Rules.{rules}
+use Rattle.sums.proofs.Joins.{partial-path}
+use Rattle.folds.proofs.sum.Goals as goal
+
+pub returns : goal.returns
+returns c = partial-path c.fold_at.ensures refl

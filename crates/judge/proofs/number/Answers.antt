@@ -1,0 +1,8 @@
+-- The verdict's number.
+use mathlib.Core.Path.{◌∙◌, ap}
+use borrow.Author.Rules.{rules}
+use Rattle.verdicts.specs.Numbers.{number_of}
+use Rattle.judge.proofs.number.Goals as goal
+
+pub returns : goal.returns
+returns c = c.number.ensures ∙ ap number_of c.judge.ensures
