@@ -5,25 +5,12 @@ use native.Mathlib.Omega.{arith}
 use native.Mathlib.Numerals.{add-one}
 use Rattle.wire.specs.Bytes.{put}
 use borrow.Author.Rules.{rules}
-use Rattle.writes.proofs.put_low.Statement.{statement}
-use Rattle.writes.proofs.put_low.Tie as tie
+use Rattle.writes.proofs.put_low.Goals as goal
 
-returns : tie.Need-returns
+pub returns : goal.returns
 unfolding put
 returns c =
     let w = c.args.w in
     let first : (w % 256 * 256 + w / 256) / 256 ≡ w % 256 = omega arith in
     let second : (w % 256 * 256 + w / 256) % 256 ≡ w / 256 = omega arith in
     rw (add-one, first, second)
-
-pub put-low-spec : {M : Type 1} → statement M
-put-low-spec =
-    tie.close
-    (tie.spec
-    (λ c. search rules)
-    (λ c. search rules)
-    (λ c. search rules)
-    (λ c. search rules)
-    (λ c. search rules)
-    (λ c. search rules)
-    returns)

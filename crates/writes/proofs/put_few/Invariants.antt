@@ -1,0 +1,15 @@
+-- The invariant: the first i bytes are put.
+use mathlib.Core.Path.{◌≡◌, refl, sym, ◌∙◌}
+use Prim.Native.Nat.{◌+◌, ◌-◌, ◌≤◌}
+use native.Mathlib.Omega.{arith}
+use lib.ListN.{length, length-set}
+use lib.Seq.{take_all}
+use Rattle.wire.specs.Bytes.{part, put}
+use Rattle.wire.proofs.Writes.{put_byte, put-ends}
+use Rattle.writes.proofs.put_few.Given as goal
+
+abbrev pub invariant-loop-i : goal.invariant-loop-i
+invariant-loop-i l = (l.s ≡ put l.initial.s l.at (part l.new 0 l.i)) × (l.i ≤ length l.new) × (length l.s ≡ length l.initial.s)
+
+abbrev pub decreases-loop-i : goal.decreases-loop-i
+decreases-loop-i l = length l.new - l.i
