@@ -12,18 +12,18 @@ pub loop-end-init : goal.loop-end-init
 loop-end-init c = counting-start
 
 pub overflow_add-count : goal.overflow_add-count
-overflow_add-count c = 
-    let passed : Passed c.args.capture.now c.loop-end.at c.in-Record.is.0.0 c.in-Record.is.0.1.0 = past-here _ _ _ (sym c.in-Record.is ∙ c.record_at-found.ensures) in
+overflow_add-count c =
+    let passed : Passed c.args.capture.now c.loop-end.at c.in-Record.start c.in-Record.end = past-here _ _ _ (sym c.in-Record.is ∙ c.record_at-found.ensures) in
     let p = passed in omega arith
 
 pub loop-end-smaller : goal.loop-end-smaller
-loop-end-smaller c = 
-    let passed : Passed c.args.capture.now c.loop-end.at c.in-Record.is.0.0 c.in-Record.is.0.1.0 = past-here _ _ _ (sym c.in-Record.is ∙ c.record_at-found.ensures) in
+loop-end-smaller c =
+    let passed : Passed c.args.capture.now c.loop-end.at c.in-Record.start c.in-Record.end = past-here _ _ _ (sym c.in-Record.is ∙ c.record_at-found.ensures) in
     let p = passed in omega arith
 
 pub loop-end-preserved : goal.loop-end-preserved
-loop-end-preserved c = 
-    let passed : Passed c.args.capture.now c.loop-end.at c.in-Record.is.0.0 c.in-Record.is.0.1.0 = past-here _ _ _ (sym c.in-Record.is ∙ c.record_at-found.ensures) in
+loop-end-preserved c =
+    let passed : Passed c.args.capture.now c.loop-end.at c.in-Record.start c.in-Record.end = past-here _ _ _ (sym c.in-Record.is ∙ c.record_at-found.ensures) in
     counting-record passed c.loop-end.invariant
 
 pub returns-in-End : goal.returns-in-End

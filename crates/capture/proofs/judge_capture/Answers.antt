@@ -26,12 +26,12 @@ pub returns-then-verdicts-count : goal.returns-then-verdicts-count
 returns-then-verdicts-count c =
     let marked : other_mark c.args.capture.now ≡ false = sym c.other_mark.ensures ∙ c.if-other_mark.false in
     let edition : other_edition c.args.capture.now ≡ false = sym c.other_edition.ensures ∙ c.if-other_edition.false in
-    let whole : Whole c.in-Whole.is.0.0 ≡ counted_of (records_in c.args.capture.now) = sym c.in-Whole.is ∙ c.count_records-counted.ensures in
+    let whole : Whole c.in-Whole.count ≡ counted_of (records_in c.args.capture.now) = sym c.in-Whole.is ∙ c.count_records-counted.ensures in
     rw c.refused-then-verdicts-count.ensures (answers.room _ _ marked edition _ whole c.if-verdicts-count.true)
 
 pub judge_each-requires : goal.judge_each-requires
 judge_each-requires c =
-    let whole : Whole c.in-Whole.is.0.0 ≡ counted_of (records_in c.args.capture.now) = sym c.in-Whole.is ∙ c.count_records-counted.ensures in
+    let whole : Whole c.in-Whole.count ≡ counted_of (records_in c.args.capture.now) = sym c.in-Whole.is ∙ c.count_records-counted.ensures in
     let a = c.args in
     answers.fits a.capture.now a.verdicts.now _ whole c.if-verdicts-count.false
 
@@ -39,5 +39,5 @@ pub returns : goal.returns
 returns c =
     let marked : other_mark c.args.capture.now ≡ false = sym c.other_mark.ensures ∙ c.if-other_mark.false in
     let edition : other_edition c.args.capture.now ≡ false = sym c.other_edition.ensures ∙ c.if-other_edition.false in
-    let whole : Whole c.in-Whole.is.0.0 ≡ counted_of (records_in c.args.capture.now) = sym c.in-Whole.is ∙ c.count_records-counted.ensures in
+    let whole : Whole c.in-Whole.count ≡ counted_of (records_in c.args.capture.now) = sym c.in-Whole.is ∙ c.count_records-counted.ensures in
     rw c.judge_each.ensures (answers.good _ _ marked edition _ whole c.if-verdicts-count.false)

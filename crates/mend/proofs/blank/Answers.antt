@@ -1,0 +1,66 @@
+-- What stands before the field, and what follows it.
+use mathlib.Core.Path.{◌≡◌, ◌∙◌, ap}
+use Prim.Native.Nat.{ℕ}
+use native.Mathlib.Nat.{zero-add}
+use native.Mathlib.Omega.{arith}
+use mathlib.Core.List.{List}
+use Rattle.sums.specs.Fold.{fold}
+use Rattle.wire.specs.Inner.{start_of, end_of, field_at}
+use Rattle.wire.proofs.Facts.{Facts}
+use Rattle.wire.proofs.Held.{held-facts}
+use Rattle.mend.proofs.Numbers.{zero-low}
+use Rattle.mend.proofs.Without.{without-low}
+use borrow.Author.Rules.{rules}
+use Rattle.mend.proofs.blank.Goals as goal
+
+record Known (c : tie.Start) : Type 0 where
+  facts : Facts (P c)
+  start : c.args.m.start ≡ start_of (P c)
+  end : c.args.m.end ≡ end_of (P c)
+  field : c.args.m.field ≡ field_at (P c)
+
+pub overflow_add-after : goal.overflow_add-after
+overflow_add-after c =
+    let known : Known c = let e = c.requires.is in record { facts = held-facts c.requires; start = rw e; end = rw e; field = rw e } in
+    let k = known in omega arith
+
+pub slice_bounds-total-count : goal.slice_bounds-total-count
+slice_bounds-total-count c =
+    let known : Known c = let e = c.requires.is in record { facts = held-facts c.requires; start = rw e; end = rw e; field = rw e } in
+    let k = known in omega arith
+
+pub slice_bounds-total-start : goal.slice_bounds-total-start
+slice_bounds-total-start c =
+    let known : Known c = let e = c.requires.is in record { facts = held-facts c.requires; start = rw e; end = rw e; field = rw e } in
+    let k = known in omega arith
+
+pub slice_bounds-total-end : goal.slice_bounds-total-end
+slice_bounds-total-end c =
+    let known : Known c = let e = c.requires.is in record { facts = held-facts c.requires; start = rw e; end = rw e; field = rw e } in
+    let k = known in omega arith
+
+pub slice_bounds-total-count-2 : goal.slice_bounds-total-count-2
+slice_bounds-total-count-2 c =
+    let known : Known c = let e = c.requires.is in record { facts = held-facts c.requires; start = rw e; end = rw e; field = rw e } in
+    let k = known in omega arith
+
+pub slice_bounds-total-start-2 : goal.slice_bounds-total-start-2
+slice_bounds-total-start-2 c =
+    let known : Known c = let e = c.requires.is in record { facts = held-facts c.requires; start = rw e; end = rw e; field = rw e } in
+    let k = known in omega arith
+
+pub slice_bounds-total-end-2 : goal.slice_bounds-total-end-2
+slice_bounds-total-end-2 c =
+    let known : Known c = let e = c.requires.is in record { facts = held-facts c.requires; start = rw e; end = rw e; field = rw e } in
+    let k = known in omega arith
+
+pub returns : goal.returns
+returns c =
+    let P : List ℕ = c.args.packet.now in
+    let known : Known c = let e = c.requires.is in record { facts = held-facts c.requires; start = rw e; end = rw e; field = rw e } in
+    let m = c.args.m in
+    let k = known in
+    zero-low _ _
+    (without-low P m.start m.field m.end (omega arith) (rw (k.start, k.field) k.facts.even) (omega arith) (omega arith) _ _
+    (c.total-before.ensures ∙ ap fold (zero-add _)) c.total.ensures)
+    ∙ rw (k.start, k.end, k.field)
