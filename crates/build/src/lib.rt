@@ -136,7 +136,7 @@ fn fill(
     body: &[u8],
 )
     requires fits { Fits m.family (asked source.now destination.now source_port destination_port lifetime body.now) }
-    requires m_value { (m ≡ places_in m.family (length body.now)) × (length packet.old ≡ m.end) }
+    requires laid_out { (m ≡ places_in m.family (length body.now)) × (length packet.old ≡ m.end) }
     ensures { packet.new ≡ packet_in m.family (asked source.now destination.now source_port destination_port lifetime body.now) }
 {
     let family = m.family;

@@ -31,7 +31,7 @@ pub fn set_side(packet: &mut [u8], m: Message, side: u32, address: &[u8]) -> Ver
 // IPv4: the header's field is updated, and the message's where it covers the addresses and is in use.
 fn set4(packet: &mut [u8], m: Message, side: u32, address: &[u8]) -> Verdict
     requires holds { Holds packet.old m }
-    requires packet_value { (four packet.old ≡ true) × (side ≤ 1) }
+    requires family { (four packet.old ≡ true) × (side ≤ 1) }
     ensures { (result, packet.new) ≡ address_in packet.old side address.now }
 {
     if address.len() != wire::ADDRESS_4 {
@@ -54,7 +54,7 @@ fn set4(packet: &mut [u8], m: Message, side: u32, address: &[u8]) -> Verdict
 // IPv6 has no header field, and every message a pseudo-header. UDP's 0000 was refused.
 fn set6(packet: &mut [u8], m: Message, side: u32, address: &[u8]) -> Verdict
     requires holds { Holds packet.old m }
-    requires packet_value { (four packet.old ≡ false) × (silent_of packet.old ≡ false) × (side ≤ 1) }
+    requires family { (four packet.old ≡ false) × (silent_of packet.old ≡ false) × (side ≤ 1) }
     ensures { (result, packet.new) ≡ address_in packet.old side address.now }
 {
     if address.len() != wire::ADDRESS_6 {

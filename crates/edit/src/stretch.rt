@@ -40,7 +40,7 @@ pub fn set_within(packet: &mut [u8], m: Message, place: usize, bytes: &[u8]) -> 
 // Writes new bytes into the body and updates the message's field, counting them by their position in the message.
 fn put_stretch(packet: &mut [u8], m: Message, at: usize, bytes: &[u8])
     requires holds { Holds packet.old m }
-    requires packet_bound { (body_of packet.old ≤ at) × (at + length bytes.now ≤ end_of packet.old) }
+    requires within { (body_of packet.old ≤ at) × (at + length bytes.now ≤ end_of packet.old) }
     ensures { packet.new ≡ message_after packet.old (at - start_of packet.old) at bytes.now (put packet.old at bytes.now) }
 {
     let end = at + bytes.len();

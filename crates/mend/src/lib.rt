@@ -93,7 +93,7 @@ fn kept(packet: &[u8], m: Message) -> bool
 // The header's field, from what stands around it. That is never 0, as the version isn't.
 fn fresh_header(packet: &[u8], m: Message) -> u64
     requires holds { Holds packet.now m }
-    requires packet_value { four packet.now ≡ true }
+    requires is_four { four packet.now ≡ true }
     ensures { (result ≤ 65535) × (swap result ≡ fresh_header packet.now) }
 {
     let end = m.start;
@@ -137,7 +137,7 @@ fn fresh_message(packet: &[u8], m: Message) -> u64
 // The field where 65535 divides the rest of the block: 0000, but FFFF for UDP and where the rest is zeros alone.
 fn zero_field(packet: &[u8], m: Message) -> u64
     requires holds { Holds packet.now m }
-    requires packet_value { message_total (put_word packet.now (field_at packet.now) 0) % 65535 ≡ 0 }
+    requires multiple { message_total (put_word packet.now (field_at packet.now) 0) % 65535 ≡ 0 }
     ensures { (result ≤ 65535) × (swap result ≡ fresh_message packet.now) }
 {
     if m.protocol == wire::UDP {

@@ -10,7 +10,7 @@ use wire::Message;
 // are the old bytes or the new ones.
 pub fn blanks(packet: &[u8], m: Message, at: usize, new: &[u8]) -> bool
     requires holds { Holds packet.now m }
-    requires packet_bound { (body_of packet.now ≤ at) × (at + length new.now ≤ end_of packet.now) }
+    requires within { (body_of packet.now ≤ at) × (at + length new.now ≤ end_of packet.now) }
     ensures { result ≡ (eqb (protocol_of packet.now) 1 && (blank packet.now packet.now || blank packet.now (put packet.now at new.now))) }
 {
     if m.protocol != wire::ICMP {

@@ -19,7 +19,7 @@ pub const UDP_HEADER: usize = 8;
 // ICMP and ICMPv6 say no length of their own: the packet is asked for by the contract alone.
 pub fn icmp(packet: &[u8], c: Carried, protocol: u8, plan: Plan) -> Part
     requires carrying { Carrying packet.now c protocol plan }
-    requires fact { (protocol ≡ 6 → ⊥) × (protocol ≡ 17 → ⊥) }
+    requires no_length { (protocol ≡ 6 → ⊥) × (protocol ≡ 17 → ⊥) }
     ensures { result ≡ inner_of packet.now }
 {
     if c.declared - c.start < plan.fixed {

@@ -19,38 +19,38 @@ use Rattle.mend.proofs.fresh_header.Goals as goal
 pub slice_bounds-before_field-end : goal.slice_bounds-before_field-end
 slice_bounds-before_field-end c =
     let P : List ℕ = c.args.packet.now in
-    let f = held-facts c.requires.0 in sym (length-take-le 10 P (omega arith))
+    let f = held-facts c.requires.holds in sym (length-take-le 10 P (omega arith))
 
 pub before_field-before-requires : goal.before_field-before-requires
 before_field-before-requires c =
     let P : List ℕ = c.args.packet.now in
-    let f = held-facts c.requires.0 in length-take-le 10 P (omega arith)
+    let f = held-facts c.requires.holds in length-take-le 10 P (omega arith)
 
 pub slice_bounds-after_field-count : goal.slice_bounds-after_field-count
 slice_bounds-after_field-count c =
     let P : List ℕ = c.args.packet.now in
-    let end : c.args.m.start ≡ header_end P = ap (λ (m : Message). m.start) c.requires.0.is ∙ start-four P c.requires.1 in
-    let f = held-facts c.requires.0 in let e = end in omega arith
+    let end : c.args.m.start ≡ header_end P = ap (λ (m : Message). m.start) c.requires.holds.is ∙ start-four P c.requires.is_four in
+    let f = held-facts c.requires.holds in let e = end in omega arith
 
 pub slice_bounds-after_field-start : goal.slice_bounds-after_field-start
 slice_bounds-after_field-start c =
     let P : List ℕ = c.args.packet.now in
-    let end : c.args.m.start ≡ header_end P = ap (λ (m : Message). m.start) c.requires.0.is ∙ start-four P c.requires.1 in
-    let f = held-facts c.requires.0 in let e = end in omega arith
+    let end : c.args.m.start ≡ header_end P = ap (λ (m : Message). m.start) c.requires.holds.is ∙ start-four P c.requires.is_four in
+    let f = held-facts c.requires.holds in let e = end in omega arith
 
 pub slice_bounds-after_field-end : goal.slice_bounds-after_field-end
 slice_bounds-after_field-end c =
     let P : List ℕ = c.args.packet.now in
-    let end : c.args.m.start ≡ header_end P = ap (λ (m : Message). m.start) c.requires.0.is ∙ start-four P c.requires.1 in
-    let f = held-facts c.requires.0 in let e = end in omega arith
+    let end : c.args.m.start ≡ header_end P = ap (λ (m : Message). m.start) c.requires.holds.is ∙ start-four P c.requires.is_four in
+    let f = held-facts c.requires.holds in let e = end in omega arith
 
 pub after_field-requires : goal.after_field-requires
 unfolding header_end
 after_field-requires c =
     let P : List ℕ = c.args.packet.now in
-    let end : c.args.m.start ≡ header_end P = ap (λ (m : Message). m.start) c.requires.0.is ∙ start-four P c.requires.1 in
-    let words : header_end P % 4 ≡ 0 = simp c.requires.1 (omega arith) in
-    let f = held-facts c.requires.0 in
+    let end : c.args.m.start ≡ header_end P = ap (λ (m : Message). m.start) c.requires.holds.is ∙ start-four P c.requires.is_four in
+    let words : header_end P % 4 ≡ 0 = simp c.requires.is_four (omega arith) in
+    let f = held-facts c.requires.holds in
     let e = end in
     let w = words in
     let l = part_length P 12 (c.args.m.start - 12) (omega arith) in
@@ -59,8 +59,8 @@ after_field-requires c =
 pub returns : goal.returns
 returns c =
     let P : List ℕ = c.args.packet.now in
-    let end : c.args.m.start ≡ header_end P = ap (λ (m : Message). m.start) c.requires.0.is ∙ start-four P c.requires.1 in
-    let f = held-facts c.requires.0 in
+    let end : c.args.m.start ≡ header_end P = ap (λ (m : Message). m.start) c.requires.holds.is ∙ start-four P c.requires.is_four in
+    let f = held-facts c.requires.holds in
     let e = end in
     let r = c.field_low.ensures in (
       omega (arith, r.0),

@@ -88,7 +88,7 @@ zero_field-requires c =
     (message-low p k _ _ _ _ start end c.pseudo_total-before.ensures c.total.ensures ∙ ap (λ (n : ℕ). fold (256 * n)) (sym (aside_f k (same_self p))))
     (low p f ∙ ap (λ (n : ℕ). n + 65535 * byte_at p f) (sym w)) c.le2-field.ensures.1 c.carry-t.ensures in
     let t : c.carry-t.result % 65535 ≡ 0 = omega (arith, c.field_low-fresh.ensures.1, c.if-fresh-ne0.false) in
-    (c.requires, divides _ (sym rest ∙ t))
+    record { holds = c.requires; multiple = divides _ (sym rest ∙ t) }
 
 pub returns : goal.returns
 returns c = c.zero_field.ensures

@@ -17,7 +17,7 @@ fresh_header-fresh-requires c =
     let P : List ℕ = c.args.packet.now in
     let family : c.args.m.family ≡ family_of P = ap (λ (m : Message). m.family) c.requires.is in
     let four4 : four P ≡ true = is-four P (sym family ∙ c.in-Four.is) in
-    (c.requires, four4)
+    record { holds = c.requires; is_four = four4 }
 
 pub put_low-requires : goal.put_low-requires
 put_low-requires c =

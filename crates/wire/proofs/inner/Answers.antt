@@ -46,7 +46,7 @@ icmp-requires c =
     let n = named-icmp (name _ _ c.requires.0 c.requires.1 _ c.in-Icmp.is) in
     record {
       carrying = carrying _ _ c.requires.0 c.requires.1 1 _ n.0 (rw (n.0, n.1));
-      fact = (λ e. omega arith, λ e. omega arith);
+      no_length = (λ e. omega arith, λ e. omega arith);
     }
 
 pub icmp-requires-in-Icmp6 : goal.icmp-requires-in-Icmp6
@@ -55,5 +55,5 @@ icmp-requires-in-Icmp6 c =
     let n = named-icmp6 (name _ _ c.requires.0 c.requires.1 _ c.in-Icmp6.is) in
     record {
       carrying = carrying _ _ c.requires.0 c.requires.1 58 _ n.0 (rw (n.0, n.1));
-      fact = (λ e. omega arith, λ e. omega arith);
+      no_length = (λ e. omega arith, λ e. omega arith);
     }

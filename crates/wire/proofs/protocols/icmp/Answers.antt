@@ -17,7 +17,7 @@ placed-requires c = let k = room c.requires.carrying in omega arith
 pub returns : goal.returns
 returns c =
     let d = c.requires in
-    let t = ne_eqb _ _ d.fact.0 in
-    let u = ne_eqb _ _ d.fact.1 in
+    let t = ne_eqb _ _ d.no_length.0 in
+    let u = ne_eqb _ _ d.no_length.1 in
     c.placed.ensures
     ∙ fits d.carrying (omega arith) _ _ (simp t) (simp u) (simp (t, u) (omega arith)) (simp (t, u) (omega arith))
