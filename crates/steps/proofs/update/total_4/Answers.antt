@@ -5,15 +5,11 @@ use native.Mathlib.Nat.{zero-add}
 use Rattle.sums.specs.Fold.{fold}
 use Rattle.sums.proofs.Rests.{more-four, more-end}
 use borrow.Author.Rules.{rules}
-use Rattle.steps.proofs.update.total_4.Statement.{statement}
-use Rattle.steps.proofs.update.total_4.Tie as tie
+use Rattle.steps.proofs.update.total_4.Goals as goal
 
-returns : tie.Need-returns
+pub returns : goal.returns
 returns c =
     let r = c.le4.result in
-    let xs = c.before.before.args.b.now in
-    let l = c.before.before.requires in
+    let xs = c.args.b.now in
+    let l = c.requires in
     more-end xs r 4 (omega arith) ∙ more-four xs 0 r r 0 4 (omega arith) refl c.le4.ensures.0 (ap fold (sym (zero-add r)))
-
-pub total-4-spec : {M : Type 1} → statement M
-total-4-spec = tie.close (tie.spec (λ c κs. search rules) returns)
