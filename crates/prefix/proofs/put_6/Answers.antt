@@ -1,0 +1,13 @@
+-- Six stores are the bytes put.
+use native.Mathlib.Omega.{arith}
+use native.Mathlib.Numerals.{towards_suc}
+use lib.ListN.{length-set}
+use Rattle.wire.proofs.Writes.{put-each}
+use borrow.Author.Rules.{rules}
+use Rattle.prefix.proofs.put_6.Goals as goal
+
+pub bounds-s-at-6 : goal.bounds-s-at-6
+bounds-s-at-6 c = simp length-set
+
+pub returns : goal.returns
+returns c = simp towards_suc (put-each _ _ _ 6 (omega arith))
