@@ -76,8 +76,8 @@ fn exchange(packet: &mut [u8], m: Message, side: u32, expected: &[u8], new: &[u8
 
 // The same of the address at a place, by prefixes of six bytes. Whatever is read is read before the first write.
 fn exchange_at(packet: &mut [u8], at: usize, expected: &[u8], new: &[u8]) -> Verdict
-    requires at_in_bounds { at + 16 ≤ length packet.old }
-    requires expected_len { (length expected.now ≡ 6) × (length new.now ≡ 6) }
+    requires fits { at + 16 ≤ length packet.old }
+    requires sizes { (length expected.now ≡ 6) × (length new.now ≡ 6) }
     ensures { (result, packet.new) ≡ prefix_at packet.old at expected.now new.now }
 {
     let end = at + 8;

@@ -42,7 +42,7 @@ returns-then-new-ne-PREFIX c =
 pub exchange_at-requires : goal.exchange_at-requires
 exchange_at-requires c =
     let k = (known c.requires.0).facts.outer in
-    (omega (arith, (k.six c.requires.1).0), (c.if-expected-ne-PREFIX.false, c.if-new-ne-PREFIX.false))
+    record { fits = omega (arith, (k.six c.requires.1).0); sizes = (c.if-expected-ne-PREFIX.false, c.if-new-ne-PREFIX.false) }
 
 pub returns : goal.returns
 returns c =

@@ -18,11 +18,11 @@ returns-then-address-le6 c =
     c.le8-address.ensures ∙ ap (λ n. eight_at (part P a n) 0) k in
     let sized : Sized P c.args.at c.args.expected.now c.args.new.now = let h = c.requires in
     record {
-      bytes = λ i. omega (arith, c.type_inv.packet i);
+      bytes = λ i. search rules;
       these = λ i. omega (arith, c.type_inv.expected i);
-      fits = h.0;
-      old = h.1.0;
-      six = h.1.1;
+      fits = h.fits;
+      old = h.sizes.0;
+      six = h.sizes.1;
     } in
     other-prefix sized (λ e. c.if-address-le6.true (rw eight (e ∙ sym c.le6.ensures)))
 
@@ -34,11 +34,11 @@ returns-then-address-eq65535 c =
     c.le8-address.ensures ∙ ap (λ n. eight_at (part P a n) 0) k in
     let sized : Sized P c.args.at c.args.expected.now c.args.new.now = let h = c.requires in
     record {
-      bytes = λ i. omega (arith, c.type_inv.packet i);
+      bytes = λ i. search rules;
       these = λ i. omega (arith, c.type_inv.expected i);
-      fits = h.0;
-      old = h.1.0;
-      six = h.1.1;
+      fits = h.fits;
+      old = h.sizes.0;
+      six = h.sizes.1;
     } in
     let begins : eight_at (part P c.args.at 8) 0 % 281474976710656 ≡ six_of c.args.expected.now = ap (λ n. n % 281474976710656) (sym eight) ∙ c.if-address-le6.false ∙ c.le6.ensures in
     full sized begins (ap (λ n. n / 281474976710656) (sym eight) ∙ c.if-address-eq65535.true)
@@ -51,11 +51,11 @@ returns c =
     c.le8-address.ensures ∙ ap (λ n. eight_at (part P a n) 0) k in
     let sized : Sized P c.args.at c.args.expected.now c.args.new.now = let h = c.requires in
     record {
-      bytes = λ i. omega (arith, c.type_inv.packet i);
+      bytes = λ i. search rules;
       these = λ i. omega (arith, c.type_inv.expected i);
-      fits = h.0;
-      old = h.1.0;
-      six = h.1.1;
+      fits = h.fits;
+      old = h.sizes.0;
+      six = h.sizes.1;
     } in
     let begins : eight_at (part P c.args.at 8) 0 % 281474976710656 ≡ six_of c.args.expected.now = ap (λ n. n % 281474976710656) (sym eight) ∙ c.if-address-le6.false ∙ c.le6.ensures in
     exchanged sized begins (λ e. c.if-address-eq65535.false (ap (λ n. n / 281474976710656) eight ∙ e)) _ c.change-word.ensures.0

@@ -6,8 +6,5 @@ use Rattle.wire.proofs.Writes.{put-each}
 use borrow.Author.Rules.{rules}
 use Rattle.prefix.proofs.put_6.Goals as goal
 
-pub bounds-s-at-6 : goal.bounds-s-at-6
-bounds-s-at-6 c = simp length-set
-
 pub returns : goal.returns
 returns c = simp towards_suc (put-each _ _ _ 6 (omega arith))
