@@ -199,6 +199,6 @@ module _ (a : Asked) (buffer : List ℕ) {n : ℕ} {q : List ℕ} (e : Builds a 
       ∙ sym (is a buffer e)
 
   -- a string of bytes is the packet that is built just if it has what was asked for, is plain and good, and its header field isn't FFFF
-  pub built-only : (p : List ℕ) → Bytes p → (p ≡ take n q) ↔ (Reads a p × Plain p × (judge_of p ≡ Good) × (four p ≡ true → word_at p header_field ≢ 65535))
-  built-only p b =
+  pub built-just : (p : List ℕ) → Bytes p → (p ≡ take n q) ↔ (Reads a p × Plain p × (judge_of p ≡ Good) × (four p ≡ true → word_at p header_field ≢ 65535))
+  built-just p b =
       (λ s. let r = built-read a buffer e in rw s (r.0, r.1, (built-good a buffer e).0, its_own), λ x. no_other p b x.0 x.1 x.2 x.3)

@@ -11,43 +11,50 @@ use Rattle.build.proofs.Answers.{misfit, at_place, at-spent, at_room, asks-fill,
 use borrow.Author.Rules.{rules}
 use Rattle.build.proofs.build_udp.Goals as goal
 
-module _ (c : tie.Start) where
-  abbrev wanted : Asked
-  wanted = asked c.args.source.now c.args.destination.now c.args.«source-port» c.args.«destination-port» c.args.lifetime c.args.body.now
-
-  abbrev B : List ℕ
-  B = c.args.buffer.now
-
 pub returns-then-unfit : goal.returns-then-unfit
 returns-then-unfit c =
-    ap (λ (r : Built). (r, B c)) c.refused.ensures ∙ at_place (wanted c) (B c) (sym c.unfit.ensures ∙ c.if-unfit.true)
+    let W : Asked = asked c.args.source.now c.args.destination.now c.args.source_port c.args.destination_port c.args.lifetime c.args.body.now in
+    let B : List ℕ = c.args.buffer.now in
+    ap (λ (r : Built). (r, B)) c.refused.ensures ∙ at_place W B (sym c.unfit.ensures ∙ c.if-unfit.true)
 
 pub returns-then-lifetime-eq0 : goal.returns-then-lifetime-eq0
 returns-then-lifetime-eq0 c =
-    ap (λ (r : Built). (r, B c)) c.refused-then-lifetime-eq0.ensures ∙ at-spent (wanted c) (B c) (sym c.unfit.ensures ∙ c.if-unfit.false) c.if-lifetime-eq0.true
+    let W : Asked = asked c.args.source.now c.args.destination.now c.args.source_port c.args.destination_port c.args.lifetime c.args.body.now in
+    let B : List ℕ = c.args.buffer.now in
+    ap (λ (r : Built). (r, B)) c.refused-then-lifetime-eq0.ensures ∙ at-spent W B (sym c.unfit.ensures ∙ c.if-unfit.false) c.if-lifetime-eq0.true
 
 pub places-m-requires : goal.places-m-requires
 places-m-requires c =
-    let fit : misfit (wanted c) ≡ false = sym c.unfit.ensures ∙ c.if-unfit.false in
-    (fits (wanted c) fit).body
+    let W : Asked = asked c.args.source.now c.args.destination.now c.args.source_port c.args.destination_port c.args.lifetime c.args.body.now in
+    let fit : misfit W ≡ false = sym c.unfit.ensures ∙ c.if-unfit.false in
+    (fits W fit).body
 
 pub returns-then-buffer-size : goal.returns-then-buffer-size
 returns-then-buffer-size c =
-    let fit : misfit (wanted c) ≡ false = sym c.unfit.ensures ∙ c.if-unfit.false in
+    let W : Asked = asked c.args.source.now c.args.destination.now c.args.source_port c.args.destination_port c.args.lifetime c.args.body.now in
+    let B : List ℕ = c.args.buffer.now in
+    let fit : misfit W ≡ false = sym c.unfit.ensures ∙ c.if-unfit.false in
     let e = ap (λ (m : Message). m.end) c.places-m.ensures in
-    ap (λ (r : Built). (r, B c)) c.refused-then-buffer-size.ensures ∙ at_room (wanted c) (B c) fit c.if-lifetime-eq0.false (omega (arith, c.if-buffer-size.true))
+    ap (λ (r : Built). (r, B)) c.refused-then-buffer-size.ensures ∙ at_room W B fit c.if-lifetime-eq0.false (omega (arith, c.if-buffer-size.true))
 
 pub slice_bounds-fill-end-2 : goal.slice_bounds-fill-end-2
 slice_bounds-fill-end-2 c =
-    let fit : misfit (wanted c) ≡ false = sym c.unfit.ensures ∙ c.if-unfit.false in
-    sym (asks-fill (wanted c) c.places-m.result (B c) fit c.places-m.ensures c.if-buffer-size.false).1.1
+    let W : Asked = asked c.args.source.now c.args.destination.now c.args.source_port c.args.destination_port c.args.lifetime c.args.body.now in
+    let B : List ℕ = c.args.buffer.now in
+    let fit : misfit W ≡ false = sym c.unfit.ensures ∙ c.if-unfit.false in
+    sym (asks-fill W c.places-m.result B fit c.places-m.ensures c.if-buffer-size.false).1.1
 
 pub fill-requires : goal.fill-requires
 fill-requires c =
-    let fit : misfit (wanted c) ≡ false = sym c.unfit.ensures ∙ c.if-unfit.false in
-    asks-fill (wanted c) c.places-m.result (B c) fit c.places-m.ensures c.if-buffer-size.false
+    let W : Asked = asked c.args.source.now c.args.destination.now c.args.source_port c.args.destination_port c.args.lifetime c.args.body.now in
+    let B : List ℕ = c.args.buffer.now in
+    let fit : misfit W ≡ false = sym c.unfit.ensures ∙ c.if-unfit.false in
+    let t = asks-fill W c.places-m.result B fit c.places-m.ensures c.if-buffer-size.false in
+    record { fits = t.0; laid_out = t.1 }
 
 pub returns : goal.returns
 returns c =
-    let fit : misfit (wanted c) ≡ false = sym c.unfit.ensures ∙ c.if-unfit.false in
-    filled-good (wanted c) c.places-m.result (B c) fit c.places-m.ensures c.if-buffer-size.false c.if-lifetime-eq0.false c.fill.ensures
+    let W : Asked = asked c.args.source.now c.args.destination.now c.args.source_port c.args.destination_port c.args.lifetime c.args.body.now in
+    let B : List ℕ = c.args.buffer.now in
+    let fit : misfit W ≡ false = sym c.unfit.ensures ∙ c.if-unfit.false in
+    filled-good W c.places-m.result B fit c.places-m.ensures c.if-buffer-size.false c.if-lifetime-eq0.false c.fill.ensures
