@@ -176,16 +176,14 @@ good-kept p b g u n =
     (λ i l. ⊎_elim (λ e. e) (λ x. absurd (⊎_elim (λ h. n h.0 h.2) (λ h. true≢false (sym u ∙ h.0)) x.0)) (good-stands p b (inl g) i))
 
 module _ (a : Asked) (buffer : List ℕ) {n : ℕ} {q : List ℕ} (e : Builds a buffer n q) where
-  abbrev Unlike : List ℕ → Type 0
-  Unlike p = four p ≡ true → word_at p header_field ≢ 65535
-
-  its_own : Unlike (take n q)
+  its_own : four (take n q) ≡ true → word_at (take n q) header_field ≢ 65535
   unfolding packet_of
   its_own = rw (is a buffer e) (field-some (family_for a.source) a (fits a (fit a buffer e)))
 
-  no_other : (p : List ℕ) → Bytes p → Reads a p → Plain p → judge_of p ≡ Good → Unlike p → p ≡ take n q
+  -- a good packet of bytes that has what was asked for, is plain, and whose header field isn't FFFF is the one that is built
+  pub built-only : (p : List ℕ) → Bytes p → Reads a p → Plain p → judge_of p ≡ Good → (four p ≡ true → word_at p header_field ≢ 65535) → p ≡ take n q
   unfolding mend_of packet_of
-  no_other p b r l g o =
+  built-only p b r l g o =
       let c = accepted p Good (omega arith) g in
       let k = whole-facts p c.0 in
       let m = word_at p (start_of p + 6) in
@@ -201,4 +199,4 @@ module _ (a : Asked) (buffer : List ℕ) {n : ℕ} {q : List ℕ} (e : Builds a 
   -- a string of bytes is the packet that is built just if it has what was asked for, is plain and good, and its header field isn't FFFF
   pub built-just : (p : List ℕ) → Bytes p → (p ≡ take n q) ↔ (Reads a p × Plain p × (judge_of p ≡ Good) × (four p ≡ true → word_at p header_field ≢ 65535))
   built-just p b =
-      (λ s. let r = built-read a buffer e in rw s (r.0, r.1, (built-good a buffer e).0, its_own), λ x. no_other p b x.0 x.1 x.2 x.3)
+      (λ s. let r = built-read a buffer e in rw s (r.0, r.1, (built-good a buffer e).0, its_own), λ x. built-only p b x.0 x.1 x.2 x.3)
