@@ -4,8 +4,6 @@ pub mod Packets
 pub mod Moves
 pub mod Tails
 pub mod Gathering
-pub mod Calls
-pub mod Places
 pub mod Along
 pub mod Messages
 pub mod Filling
