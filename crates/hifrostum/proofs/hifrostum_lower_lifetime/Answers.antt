@@ -1,0 +1,9 @@
+-- The verdict's number, and the packet as the call leaves it.
+use mathlib.Core.Path.{◌∙◌, ap}
+use Prim.Native.Nat.{ℕ}
+use Rattle.hifrostum.specs.Answers.{numbered}
+use borrow.Author.Rules.{rules}
+use Rattle.hifrostum.proofs.hifrostum_lower_lifetime.Goals as goal
+
+pub returns : goal.returns
+returns c = ap (λ (n : ℕ). (n, c.lower_lifetime.new.packet)) c.number.ensures ∙ ap numbered c.lower_lifetime.ensures
