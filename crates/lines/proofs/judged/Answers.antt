@@ -1,0 +1,6 @@
+-- The verdict is the judge's, and the tally that of one record more.
+use borrow.Author.Rules.{rules}
+use Rattle.lines.proofs.judged.Goals as goal
+
+pub returns : goal.returns
+returns c = rw (c.counted-tally.ensures, c.number-verdict.ensures, c.judge.ensures)

@@ -1,0 +1,6 @@
+-- The line holds the verdict's number.
+use borrow.Author.Rules.{rules}
+use Rattle.lines.proofs.stop.Goals as goal
+
+pub returns : goal.returns
+returns c = rw c.number.ensures
