@@ -2,7 +2,6 @@
 use mathlib.Core.Path.{◌≡◌, sym, ◌∙◌}
 use mathlib.Core.Bool.{false}
 use Rattle.capture.specs.Records.{other_mark}
-use borrow.Author.Rules.{rules}
 use Rattle.lines.proofs.after_capture_head.Goals as goal
 
 pub returns-then-other_mark : goal.returns-then-other_mark
@@ -14,6 +13,6 @@ returns-then-other_edition c =
     c.stop-then-other_edition.ensures ∙ simp (right, sym c.other_edition.ensures ∙ c.if-other_edition.true)
 
 pub returns : goal.returns
-returns c = 
+returns c =
     let right : other_mark c.args.bytes.now ≡ false = sym c.other_mark.ensures ∙ c.if-other_mark.false in
     simp (right, sym c.other_edition.ensures ∙ c.if-other_edition.false)

@@ -1,7 +1,6 @@
 -- Each return is a case of `by_head`, by what the head says.
 use mathlib.Core.Path.{sym, ◌∙◌}
 use borrow.Author.Tests.{eq-eqb, ne_eqb}
-use borrow.Author.Rules.{rules}
 use Rattle.lines.proofs.after_record_head.Goals as goal
 
 pub returns-then-size-eq0 : goal.returns-then-size-eq0

@@ -1,5 +1,4 @@
 -- In each arm the phase is known.
-use borrow.Author.Rules.{rules}
 use Rattle.lines.proofs.decide.Goals as goal
 
 pub returns-in-CaptureHead : goal.returns-in-CaptureHead

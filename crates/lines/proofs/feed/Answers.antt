@@ -3,7 +3,6 @@ use native.Mathlib.Omega.{arith}
 use Rattle.io.proofs.Counting.{prefix_len_of_le}
 use Rattle.lines.specs.Feed.{fed_of}
 use Rattle.lines.proofs.Texts.{from_first}
-use borrow.Author.Rules.{rules}
 use Rattle.lines.proofs.feed.Goals as goal
 
 pub returns : goal.returns

@@ -1,5 +1,4 @@
 -- The verdict is the judge's, and the tally that of one record more.
-use borrow.Author.Rules.{rules}
 use Rattle.lines.proofs.judged.Goals as goal
 
 pub returns : goal.returns

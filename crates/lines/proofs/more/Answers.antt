@@ -1,7 +1,6 @@
 -- Both sides of the test.
 use borrow.Author.Tests.{lt-ltb, le-ltb}
 use Rattle.lines.specs.Feed.{more}
-use borrow.Author.Rules.{rules}
 use Rattle.lines.proofs.more.Goals as goal
 
 pub returns-then-n-lt-LARGEST : goal.returns-then-n-lt-LARGEST

@@ -3,7 +3,6 @@ use native.Mathlib.Omega.{arith}
 use Rattle.lines.specs.Text.{◌then◌}
 use Rattle.lines.specs.Lines.{text_of}
 use Rattle.wire.specs.Bytes.{put}
-use borrow.Author.Rules.{rules}
 use Rattle.lines.proofs.spell.Goals as goal
 
 pub returns-in-Nothing : goal.returns-in-Nothing

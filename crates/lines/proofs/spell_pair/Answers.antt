@@ -2,7 +2,6 @@
 use native.Mathlib.Omega.{arith}
 use Rattle.lines.specs.Lines.{pair_text}
 use Rattle.lines.proofs.Texts.{two-counts}
-use borrow.Author.Rules.{rules}
 use Rattle.lines.proofs.spell_pair.Goals as goal
 
 pub returns : goal.returns

@@ -2,7 +2,6 @@
 use native.Mathlib.Omega.{arith}
 use Rattle.lines.specs.Lines.{totals_text}
 use Rattle.lines.proofs.Texts.{four-counts}
-use borrow.Author.Rules.{rules}
 use Rattle.lines.proofs.spell_totals.Goals as goal
 
 pub returns : goal.returns
@@ -11,6 +10,6 @@ returns c =
     record {
       out_after =
           four-counts _ _ _ _ _ _ _ _ _ _ _ _ _ _ _ c.put_count-at.ensures.out_after c.put_count-at-2.ensures.out_after c.put_count-at-3.ensures.out_after
-              c.put_count-at-4.ensures.out_after c.put_text.ensures.out_after;
+          c.put_count-at-4.ensures.out_after c.put_text.ensures.out_after;
       upper_bound = omega arith;
     }

@@ -1,5 +1,4 @@
 -- The line holds the verdict's number.
-use borrow.Author.Rules.{rules}
 use Rattle.lines.proofs.stop.Goals as goal
 
 pub returns : goal.returns

@@ -4,7 +4,6 @@ use Prim.Native.Nat.{◌≤◌}
 use native.Mathlib.Omega.{arith}
 use Rattle.lines.specs.Text.{◌then◌}
 use Rattle.lines.proofs.Texts.{decimal-is, few-digits}
-use borrow.Author.Rules.{rules}
 use Rattle.lines.proofs.text.put_count.Goals as goal
 
 pub slice_bounds-put_text-end : goal.slice_bounds-put_text-end

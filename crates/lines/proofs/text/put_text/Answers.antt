@@ -1,7 +1,6 @@
 -- The bytes put are the page's next.
 use mathlib.Core.Path.{refl}
 use Rattle.lines.specs.Text.{◌then◌}
-use borrow.Author.Rules.{rules}
 use Rattle.lines.proofs.text.put_text.Goals as goal
 
 pub returns : goal.returns
