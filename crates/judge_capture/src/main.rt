@@ -3,8 +3,9 @@
 // What is printed, and when to stop, is decided by the crate `lines`. Here it is only read and written.
 #![tactic(auto)]
 
-ghost use Rattle.std.specs.Prelude.{◌≤◌};
+ghost use Rattle.std.specs.Prelude.{◌≡◌, ◌<◌, ◌≤◌, IfOk, length, min, take};
 ghost use Rattle.std.specs.Io.{ReadsAtMost};
+ghost use Rattle.std.specs.Io.KnownBytes.{Consumes, IsAtEnd};
 
 use lines::State;
 use std::io;
@@ -59,8 +60,10 @@ fn turn(rt: &(impl Print + Eprint), input: &mut impl Read, state: State) -> Step
 }
 
 // Reads so many bytes, or as many as the buffer holds, and answers how many it read: fewer only at the input's end.
-fn read(input: &mut impl Read, size: usize, buffer: &mut [u8]) -> io::Result<usize>
-    ensures { ReadsAtMost result buffer.new }
+fn read<R: Read>(input: &mut R, size: usize, buffer: &mut [u8]) -> io::Result<usize>
+    ensures bound { ReadsAtMost result buffer.new }
+    ensures bytes { IfOk result (λ n. Consumes (R.remaining input.old) (R.remaining input.new) (take n buffer.new)) }
+    ensures end { IfOk result (λ n. n < min size (length buffer.old) → IsAtEnd (R.remaining input.new)) }
 {
     let most = least(size, buffer.len());
     let mut count: usize = 0;
@@ -75,7 +78,8 @@ fn read(input: &mut impl Read, size: usize, buffer: &mut [u8]) -> io::Result<usi
 }
 
 fn least(a: usize, b: usize) -> usize
-    ensures { result ≤ b }
+    ensures bound { result ≤ b }
+    ensures value { result ≡ min a b }
 {
     if a < b { a } else { b }
 }
