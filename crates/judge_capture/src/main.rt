@@ -3,93 +3,83 @@
 // What is printed, and when to stop, is decided by the crate `lines`. Here it is only read and written.
 #![tactic(auto)]
 
-ghost use Rattle.std.specs.Prelude.{◌≤◌};
-ghost use Rattle.io.specs.Counts.{IsPrefixLen};
+ghost use Rattle.std.specs.Prelude.{◌≡◌, ◌<◌, ◌≤◌, IfOk, length, min, take};
+ghost use Rattle.std.specs.Io.{ReadsAtMost};
+ghost use Rattle.std.specs.Io.KnownBytes.{Consumes, IsAtEnd};
 
-use libc::{STDIN_FILENO, STDOUT_FILENO};
 use lines::State;
-
-// How many bytes were read: fewer than wanted only at the input's end, unless a read failed.
-#[derive(Clone, Copy)]
-struct Got {
-    count: usize,
-    failed: bool,
-}
+use std::io;
+use std::io::Read;
+use std::process::ExitCode;
 
 #[derive(Clone, Copy)]
 enum Step {
     On(State),
     Done,
+    Failed,
 }
 
-fn main() {
+fn main(rt: HostRuntime) -> ExitCode {
+    let mut input = rt.stdin();
     let mut state = lines::start();
-    let mut turns: u64 = 18446744073709551615;
-    while 0 < turns {
-        let step = turn(state);
-        let Step::On(next) = step else {
-            return;
-        };
-        state = next;
-        turns -= 1;
+    for _ in 0..u64::MAX {
+        let step = turn(&rt, &mut input, state);
+        match step {
+            Step::On(next) => state = next,
+            Step::Done => return ExitCode::SUCCESS,
+            Step::Failed => return ExitCode::FAILURE,
+        }
     }
+    ExitCode::SUCCESS
 }
 
-// Reads what is wanted next, and prints the line that follows from it, if there is one.
-fn turn(state: State) -> Step {
+// Reads what is wanted next, and prints the line that follows from it, if there is one. What fails is said on standard
+// error.
+fn turn(rt: &(impl Print + Eprint), input: &mut impl Read, state: State) -> Step {
     let size = lines::want(state);
     if size == 0 {
         return Step::Done;
     }
     let mut bytes = [0u8; lines::PIECE];
-    let got = read(size, &mut bytes);
-    if got.failed {
-        os::fail(b"judge_capture: cannot read standard input");
-        return Step::Done;
-    }
-    let count = got.count;
+    let count = match read(input, size, &mut bytes) {
+        Ok(count) => count,
+        Err(error) => {
+            let _ = eprintln!(rt; "judge_capture: cannot read standard input: {error}");
+            return Step::Failed;
+        }
+    };
     let mut out = [0u8; lines::LINE];
     let fed = lines::feed(state, &bytes[..count], &mut out);
     let written = fed.written;
-    if !io::write_all(STDOUT_FILENO, &out[..written]) {
-        os::fail(b"judge_capture: cannot write standard output");
-        return Step::Done;
+    if let Err(error) = rt.write_all(&out[..written]) {
+        let _ = eprintln!(rt; "judge_capture: cannot write standard output: {error}");
+        return Step::Failed;
     }
     let next = fed.state;
     Step::On(next)
 }
 
-// Reads so many bytes, or as many as the buffer holds, or up to the input's end.
-fn read(size: usize, buffer: &mut [u8]) -> Got
-    ensures { IsPrefixLen result.count buffer.new }
+// Reads so many bytes, or as many as the buffer holds, and answers how many it read: fewer only at the input's end.
+fn read<R: Read>(input: &mut R, size: usize, buffer: &mut [u8]) -> io::Result<usize>
+    ensures bound { ReadsAtMost result buffer.new }
+    ensures bytes { IfOk result (λ n. Consumes (R.remaining input.old) (R.remaining input.new) (take n buffer.new)) }
+    ensures end { IfOk result (λ n. n < min size (length buffer.old) → IsAtEnd (R.remaining input.new)) }
 {
     let most = least(size, buffer.len());
     let mut count: usize = 0;
     while count < most {
-        let got = libc::read(STDIN_FILENO, &mut buffer[count..most]);
-        if got < 0 {
-            return Got {
-                count,
-                failed: true,
-            };
-        }
-        let more = io::count(got, &buffer[count..most]);
+        let more = input.read(&mut buffer[count..most])?;
         if more == 0 {
-            return Got {
-                count,
-                failed: false,
-            };
+            return Ok(count);
         }
         count += more;
     }
-    Got {
-        count,
-        failed: false,
-    }
+    Ok(count)
 }
 
 fn least(a: usize, b: usize) -> usize
-    ensures { result ≤ b }
+    ensures bound { result ≤ b }
+    ensures value { result ≡ min a b }
 {
     if a < b { a } else { b }
 }

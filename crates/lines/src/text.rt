@@ -7,7 +7,7 @@ use writes::put_bytes;
 // Puts a text at a place, and answers the place behind it.
 pub fn put_text(out: &mut [u8], at: usize, text: &[u8]) -> usize
     requires { at + length text.now ≤ length out.old }
-    ensures out_after { (result, out.new) ≡ (at, out.old) then (λ x. x.now) text.entry }
+    ensures out_after { (result, out.new) ≡ (at, out.old) then text.now }
     ensures value { result ≡ at + length text.now }
 {
     put_bytes(out, at, text);
@@ -17,7 +17,7 @@ pub fn put_text(out: &mut [u8], at: usize, text: &[u8]) -> usize
 // Puts a text and behind it a number in decimal, which takes at most 20 digits, and answers the place behind both.
 pub fn put_count(out: &mut [u8], at: usize, text: &[u8], n: u64) -> usize
     requires { at + length text.now + 20 ≤ length out.old }
-    ensures out_after { (result, out.new) ≡ (at, out.old) then (λ x. x.now) text.entry then decimal_of n }
+    ensures out_after { (result, out.new) ≡ (at, out.old) then text.now then decimal_of n }
     ensures upper_bound { result ≤ at + length text.now + 20 }
 {
     let at = put_text(out, at, text);

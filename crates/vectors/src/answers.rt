@@ -12,6 +12,7 @@ use build::Built;
 use capture::judge_capture;
 use fragments::Fragment;
 use lines::State;
+use std::io;
 use sums::{Field, Fold, Joined, Partial};
 use verdicts::{Verdict, number};
 
@@ -19,32 +20,56 @@ use verdicts::{Verdict, number};
 const FILL: u8 = 0xA5;
 
 // Calls the operation on so many bytes of the buffer, and prints its answer.
-pub fn answer(case: Case, size: usize, buffer: &mut [u8], second: &[u8]) {
+pub fn answer(
+    rt: &impl Print,
+    case: Case,
+    size: usize,
+    buffer: &mut [u8],
+    second: &[u8],
+) -> io::Result<()> {
     let n = within(buffer, size);
     let m = within(second, case.two);
-    answer_on(case.operation, case.number, &mut buffer[..n], &second[..m]);
+    answer_on(
+        rt,
+        case.operation,
+        case.number,
+        &mut buffer[..n],
+        &second[..m],
+    )
 }
 
-fn answer_on(operation: u8, a: u64, buffer: &mut [u8], second: &[u8]) {
+fn answer_on(
+    rt: &impl Print,
+    operation: u8,
+    a: u64,
+    buffer: &mut [u8],
+    second: &[u8],
+) -> io::Result<()> {
     match operation {
-        operation::MEND..=operation::STRETCH => edited(operation, a, buffer, second),
-        operation::PREFIX => edited(operation, a, buffer, second),
-        operation::CAPTURE => captured(buffer, a as usize),
-        operation::CHAIN => chained(buffer, second),
-        operation::FRAGMENTS => put_verdict(gathered(buffer, second), b"\n"),
-        operation::BUILD => built(a, buffer, second),
-        operation::UPDATE => updated(a),
-        operation::JOIN => joined(second),
-        operation::PRINTED => printed(buffer),
-        _ => computed(operation, a, buffer),
+        operation::MEND..=operation::STRETCH => edited(rt, operation, a, buffer, second),
+        operation::PREFIX => edited(rt, operation, a, buffer, second),
+        operation::CAPTURE => captured(rt, buffer, a as usize),
+        operation::CHAIN => chained(rt, buffer, second),
+        operation::FRAGMENTS => put_verdict(rt, gathered(buffer, second), "\n"),
+        operation::BUILD => built(rt, a, buffer, second),
+        operation::UPDATE => updated(rt, a),
+        operation::JOIN => joined(rt, second),
+        operation::PRINTED => printed(rt, buffer),
+        _ => computed(rt, operation, a, buffer),
     }
 }
 
 // The operations that write into the buffer: the verdict, and the digest of what they left.
-fn edited(operation: u8, a: u64, buffer: &mut [u8], second: &[u8]) {
+fn edited(
+    rt: &impl Print,
+    operation: u8,
+    a: u64,
+    buffer: &mut [u8],
+    second: &[u8],
+) -> io::Result<()> {
     let verdict = edit_with(operation, a, buffer, second);
-    put_verdict(verdict, b" ");
-    put(digest(buffer), b"\n");
+    put_verdict(rt, verdict, " ")?;
+    put(rt, digest(buffer), "\n")
 }
 
 fn edit_with(operation: u8, a: u64, buffer: &mut [u8], second: &[u8]) -> Verdict {
@@ -63,8 +88,8 @@ fn exchanged(a: u64, buffer: &mut [u8], second: &[u8]) -> Verdict {
     prefix::exchange_prefix(buffer, (a % 4294967296) as u32, &second[..n], &second[n..])
 }
 
-fn put_verdict(verdict: Verdict, end: &[u8]) {
-    put(number(verdict) as u64, end);
+fn put_verdict(rt: &impl Print, verdict: Verdict, end: &str) -> io::Result<()> {
+    put(rt, number(verdict) as u64, end)
 }
 
 fn digest(bytes: &[u8]) -> u64 {
@@ -85,10 +110,10 @@ fn step(h: u64, b: u8) -> u64
 }
 
 // A capture's verdicts, into so many places.
-fn captured(buffer: &[u8], count: usize) {
+fn captured(rt: &impl Print, buffer: &[u8], count: usize) -> io::Result<()> {
     let mut verdicts = places();
     let n = within(&verdicts, count);
-    judged(buffer, &mut verdicts[..n]);
+    judged(rt, buffer, &mut verdicts[..n])
 }
 
 // A verdict buffer as it is before the call.
@@ -98,19 +123,19 @@ fn places() -> [u8; LARGEST]
     [FILL; LARGEST]
 }
 
-fn judged(buffer: &[u8], verdicts: &mut [u8]) {
+fn judged(rt: &impl Print, buffer: &[u8], verdicts: &mut [u8]) -> io::Result<()> {
     let judged = judge_capture(buffer, verdicts);
     let verdict = judged.verdict;
-    put_verdict(verdict, b" ");
-    put(judged.count as u64, b" ");
-    put(digest(verdicts), b"\n");
+    put_verdict(rt, verdict, " ")?;
+    put(rt, judged.count as u64, " ")?;
+    put(rt, digest(verdicts), "\n")
 }
 
 // A chain over the list of 32-bit numbers in payload two.
-fn chained(buffer: &[u8], second: &[u8]) {
+fn chained(rt: &impl Print, buffer: &[u8], second: &[u8]) -> io::Result<()> {
     let mut list = [0u32; LARGEST / WIDTH];
     let n = numbers(second, &mut list);
-    put_joined(chain::chain(buffer, &list[..n]));
+    put_joined(rt, chain::chain(buffer, &list[..n]))
 }
 
 // Turns bytes into 32-bit numbers at a list's start, and answers how many there are.
@@ -150,13 +175,13 @@ fn fragment_at(bytes: &[u8], at: usize) -> Fragment
 }
 
 // A packet built in the buffer: the verdict, the packet's length, and the digest of what is in the buffer now.
-fn built(a: u64, buffer: &mut [u8], second: &[u8]) {
+fn built(rt: &impl Print, a: u64, buffer: &mut [u8], second: &[u8]) -> io::Result<()> {
     let n = within(second, source_size(a));
     let built = build_between(a, &second[..n], &second[n..], buffer);
     let verdict = built.verdict;
-    put_verdict(verdict, b" ");
-    put(built.length as u64, b" ");
-    put(digest(buffer), b"\n");
+    put_verdict(rt, verdict, " ")?;
+    put(rt, built.length as u64, " ")?;
+    put(rt, digest(buffer), "\n")
 }
 
 // Behind the source payload two is the destination and then the body.
@@ -173,42 +198,46 @@ fn build_between(a: u64, source: &[u8], rest: &[u8], buffer: &mut [u8]) -> Built
     )
 }
 
-fn put_joined(joined: Joined) {
+fn put_joined(rt: &impl Print, joined: Joined) -> io::Result<()> {
     let verdict = joined.verdict;
     let sum = joined.sum;
-    put_verdict(verdict, b" ");
-    put_partial(sum);
+    put_verdict(rt, verdict, " ")?;
+    put_partial(rt, sum)
 }
 
-fn put_partial(s: Partial) {
-    put(s.fold.0 as u64, b" ");
-    put(s.length, b"\n");
+fn put_partial(rt: &impl Print, s: Partial) -> io::Result<()> {
+    put(rt, s.fold.0 as u64, " ")?;
+    put(rt, s.length, "\n")
 }
 
 // The operations that only read the buffer.
-fn computed(operation: u8, a: u64, buffer: &[u8]) {
+fn computed(rt: &impl Print, operation: u8, a: u64, buffer: &[u8]) -> io::Result<()> {
     match operation {
-        operation::JUDGE => put_verdict(judge::judge(buffer), b"\n"),
-        operation::PARTIAL => put_partial(folds::sum(buffer)),
-        operation::FOLD_AT => put(folds::fold_at(buffer, a % 2 == 1).0 as u64, b"\n"),
-        _ => put(folds::field_of(folds::sum(buffer).fold).0 as u64, b"\n"),
+        operation::JUDGE => put_verdict(rt, judge::judge(buffer), "\n"),
+        operation::PARTIAL => put_partial(rt, folds::sum(buffer)),
+        operation::FOLD_AT => put(rt, folds::fold_at(buffer, a % 2 == 1).0 as u64, "\n"),
+        _ => put(rt, folds::field_of(folds::sum(buffer).fold).0 as u64, "\n"),
     }
 }
 
-fn updated(a: u64) {
+fn updated(rt: &impl Print, a: u64) -> io::Result<()> {
     let field = folds::update(
         Field(bits(a, 4294967296)),
         Fold(bits(a, 65536)),
         Fold(bits(a, 1)),
     );
-    put(field.0 as u64, b"\n");
+    put(rt, field.0 as u64, "\n")
 }
 
 // The two partial sums in payload two, joined. A case without both is malformed, and doesn't come here.
-fn joined(second: &[u8]) {
+fn joined(rt: &impl Print, second: &[u8]) -> io::Result<()> {
     if 2 * SUM <= second.len() {
-        put_joined(folds::join(partial_at(second, 0), partial_at(second, SUM)));
+        put_joined(
+            rt,
+            folds::join(partial_at(second, 0), partial_at(second, SUM)),
+        )?;
     }
+    Ok(())
 }
 
 fn partial_at(bytes: &[u8], at: usize) -> Partial
@@ -228,33 +257,33 @@ fn bits(a: u64, power: u64) -> u16
 }
 
 // The lines of the program `judge_capture` for an input, decided as it does. There are no more turns than bytes and one.
-fn printed(input: &[u8]) {
+fn printed(rt: &impl Print, input: &[u8]) -> io::Result<()> {
     let mut state = lines::start();
     let mut place: usize = 0;
     let mut turns = input.len();
     loop {
         let size = lines::want(state);
         if size == 0 {
-            return;
+            return Ok(());
         }
         let end = place + least(size, input.len() - place);
-        state = show(state, &input[place..end]);
+        state = show(rt, state, &input[place..end])?;
         place = end;
         if turns == 0 {
-            return;
+            return Ok(());
         }
         turns -= 1;
     }
 }
 
 // Prints the line that follows from some bytes, if there is one, and answers the next state.
-fn show(state: State, bytes: &[u8]) -> State {
+fn show(rt: &impl Print, state: State, bytes: &[u8]) -> io::Result<State> {
     let mut out = [0u8; lines::LINE];
     let fed = lines::feed(state, bytes, &mut out);
     let written = fed.written;
-    print(&out[..written]);
+    print(rt, &out[..written])?;
     let next = fed.state;
-    next
+    Ok(next)
 }
 
 fn least(a: usize, b: usize) -> usize

@@ -3,7 +3,8 @@ ghost use Rattle.std.specs.Prelude.{◌≡◌, ◌+◌, ◌≤◌, length};
 ghost use Rattle.io.specs.Counts.{IsPrefixLen};
 
 use crate::operation;
-use libc::STDIN_FILENO;
+use std::io;
+use std::io::Read;
 use writes::put_bytes;
 
 // The largest payload, and the most places of a verdict buffer.
@@ -57,20 +58,33 @@ pub struct Sizes {
 }
 
 // Reads the next case's head.
-pub fn next_case() -> Next {
+pub fn next_case(input: &mut impl Read) -> io::Result<Next> {
     let mut bytes = [0u8; HEAD];
-    let got = io::read_full(STDIN_FILENO, &mut bytes);
+    let got = fill(input, &mut bytes)?;
     if got == 0 {
-        return Next::End;
+        return Ok(Next::End);
     }
     if got < HEAD {
-        return Next::Bad;
+        return Ok(Next::Bad);
     }
     let case = case_of(&bytes);
     if malformed(case) {
-        return Next::Bad;
+        return Ok(Next::Bad);
     }
-    Next::Case(case)
+    Ok(Next::Case(case))
+}
+
+// Reads until the buffer is full or the input ends, and answers how many bytes it read.
+fn fill(input: &mut impl Read, buffer: &mut [u8]) -> io::Result<usize> {
+    let mut count: usize = 0;
+    while count < buffer.len() {
+        let more = input.read(&mut buffer[count..])?;
+        if more == 0 {
+            return Ok(count);
+        }
+        count += more;
+    }
+    Ok(count)
 }
 
 fn case_of(bytes: &[u8; HEAD]) -> Case {
@@ -159,22 +173,28 @@ pub fn long(bytes: &[u8], at: usize) -> u64
 }
 
 // Reads payload one, which is ignored unless it is a buffer, and payload two.
-pub fn payloads(case: Case, given: &mut [u8], second: &mut [u8]) -> bool {
+pub fn payloads(
+    input: &mut impl Read,
+    case: Case,
+    given: &mut [u8],
+    second: &mut [u8],
+) -> io::Result<bool> {
     let one = case.one;
     let two = case.two;
     if case.source == GIVEN {
-        return payload(one, given) && payload(two, second);
+        return Ok(payload(input, one, given)? && payload(input, two, second)?);
     }
-    payload(one, second) && payload(two, second)
+    Ok(payload(input, one, second)? && payload(input, two, second)?)
 }
 
 // Reads a payload to a buffer's start.
-fn payload(size: usize, buffer: &mut [u8]) -> bool {
+fn payload(input: &mut impl Read, size: usize, buffer: &mut [u8]) -> io::Result<bool> {
     if size == 0 {
-        return true;
+        return Ok(true);
     }
     let n = within(buffer, size);
-    io::read_full(STDIN_FILENO, &mut buffer[..n]) == size
+    let got = fill(input, &mut buffer[..n])?;
+    Ok(got == size)
 }
 
 // Makes the case's buffer the present one.

@@ -13,6 +13,8 @@ mod print;
 use answers::answer;
 use cases::{LARGEST, Next, Sizes, lay, next_case, payloads};
 use print::print;
+use std::io;
+use std::io::Read;
 
 #[derive(Clone, Copy)]
 enum Step {
@@ -20,7 +22,8 @@ enum Step {
     Done,
 }
 
-fn main() {
+fn main(rt: HostRuntime) -> io::Result<()> {
+    let mut input = rt.stdin();
     let mut buffer = [0u8; LARGEST];
     let mut given = [0u8; LARGEST];
     let mut second = [0u8; LARGEST];
@@ -28,40 +31,41 @@ fn main() {
         buffer: 0,
         given: 0,
     };
-    let mut turns: u64 = 18446744073709551615;
-    while 0 < turns {
-        let step = turn(sizes, &mut buffer, &mut given, &mut second);
+    for _ in 0..u64::MAX {
+        let step = turn(&rt, &mut input, sizes, &mut buffer, &mut given, &mut second)?;
         let Step::On(next) = step else {
-            return;
+            return Ok(());
         };
         sizes = next;
-        turns -= 1;
     }
+    Ok(())
 }
 
 // One case: it is read, and its answer is printed. A malformed case ends the answers.
 fn turn(
+    rt: &impl Print,
+    input: &mut impl Read,
     sizes: Sizes,
     buffer: &mut [u8; LARGEST],
     given: &mut [u8; LARGEST],
     second: &mut [u8; LARGEST],
-) -> Step {
-    let next = next_case();
+) -> io::Result<Step> {
+    let next = next_case(input)?;
     match next {
         Next::Case(case) => {
-            if payloads(case, given, second) {
+            if payloads(input, case, given, second)? {
                 let sizes = lay(case, sizes, buffer, given);
-                answer(case, sizes.buffer, buffer, second);
-                return Step::On(sizes);
+                answer(rt, case, sizes.buffer, buffer, second)?;
+                return Ok(Step::On(sizes));
             }
-            bad()
+            bad(rt)
         }
-        Next::End => Step::Done,
-        Next::Bad => bad(),
+        Next::End => Ok(Step::Done),
+        Next::Bad => bad(rt),
     }
 }
 
-fn bad() -> Step {
-    print(b"bad case\n");
-    Step::Done
+fn bad(rt: &impl Print) -> io::Result<Step> {
+    print(rt, b"bad case\n")?;
+    Ok(Step::Done)
 }

@@ -1,12 +1,11 @@
 // The answers, printed as they come.
-use libc::STDOUT_FILENO;
+use std::io;
 
-pub fn print(text: &[u8]) {
-    io::write_all(STDOUT_FILENO, text);
+pub fn print(rt: &impl Print, text: &[u8]) -> io::Result<()> {
+    rt.write_all(text)
 }
 
 // A number in decimal, and a blank or a line's end behind it.
-pub fn put(n: u64, end: &[u8]) {
-    io::print_decimal(STDOUT_FILENO, n);
-    print(end);
+pub fn put(rt: &impl Print, n: u64, end: &str) -> io::Result<()> {
+    print!(rt; "{n}{end}")
 }
