@@ -2,7 +2,6 @@
 use mathlib.Core.Path.{ap}
 use Prim.Native.Nat.{ℕ}
 use Rattle.build.specs.Places.{places_at}
-use borrow.Author.Rules.{rules}
 use Rattle.build.proofs.behind.Goals as goal
 
 pub returns : goal.returns

@@ -8,7 +8,6 @@ use Rattle.wire.specs.declared.Message.{Message}
 use Rattle.build.specs.Layout.{Asked, asked}
 use Rattle.build.specs.declared.Built.{Built}
 use Rattle.build.proofs.Answers.{misfit, at_place, at-spent, at_room, asks-fill, filled-good, fits}
-use borrow.Author.Rules.{rules}
 use Rattle.build.proofs.build_udp.Goals as goal
 
 pub returns-then-unfit : goal.returns-then-unfit

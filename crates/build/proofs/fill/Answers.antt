@@ -10,11 +10,9 @@ use Rattle.wire.specs.declared.Family.{Family}
 use Rattle.wire.specs.declared.Message.{Message}
 use Rattle.mend.specs.Fresh.{fresh_header}
 use Rattle.mend.specs.Mend.{mended_header}
-use Rattle.build.specs.Places.{places_in}
 use Rattle.build.specs.Layout.{Asked, asked, header_size, datagram_for, laid}
 use Rattle.build.proofs.Summed.{mended-header-is, filled}
 use Rattle.build.proofs.Steps.{laid_out, lays, held}
-use borrow.Author.Rules.{rules}
 use Rattle.build.proofs.fill.Goals as goal
 
 pub lay_header-requires : goal.lay_header-requires

@@ -11,7 +11,6 @@ use Rattle.wire.proofs.Held.{held-facts}
 use Rattle.cover.specs.Sums.{message_total}
 use Rattle.cover.proofs.Before.{message-low}
 use Rattle.mend.proofs.Numbers.{divides, fresh-some, fresh-udp}
-use borrow.Author.Rules.{rules}
 use Rattle.build.proofs.fresh_field.Goals as goal
 
 pub slice_bounds-total-count : goal.slice_bounds-total-count

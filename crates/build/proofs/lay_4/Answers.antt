@@ -3,7 +3,6 @@ use Prim.Native.Nat.{◌-◌}
 use native.Mathlib.Omega.{arith}
 use lib.ListN.{length}
 use Rattle.build.proofs.Steps.{laid4}
-use borrow.Author.Rules.{rules}
 use Rattle.build.proofs.lay_4.Goals as goal
 
 pub returns : goal.returns

@@ -2,7 +2,6 @@
 use Prim.Native.Nat.{◌-◌}
 use lib.ListN.{length}
 use Rattle.build.proofs.Steps.{laid6}
-use borrow.Author.Rules.{rules}
 use Rattle.build.proofs.lay_6.Goals as goal
 
 pub returns : goal.returns

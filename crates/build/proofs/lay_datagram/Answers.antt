@@ -1,6 +1,5 @@
 -- The eight bytes of the header, and the body behind them.
 use Rattle.build.proofs.Steps.{laid8}
-use borrow.Author.Rules.{rules}
 use Rattle.build.proofs.lay_datagram.Goals as goal
 
 pub returns : goal.returns

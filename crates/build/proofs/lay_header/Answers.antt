@@ -4,7 +4,6 @@ use Prim.Native.Nat.{ℕ}
 use mathlib.Core.List.{List}
 use Rattle.wire.specs.declared.Family.{Family}
 use Rattle.build.specs.Places.{Lays, header_left}
-use borrow.Author.Rules.{rules}
 use Rattle.build.proofs.lay_header.Goals as goal
 
 pub lay_4-requires : goal.lay_4-requires

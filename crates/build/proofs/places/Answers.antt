@@ -2,7 +2,6 @@
 use mathlib.Core.Path.{◌∙◌, sym}
 use lib.ListN.{length}
 use borrow.Author.Tests.{ne_eqb}
-use borrow.Author.Rules.{rules}
 use Rattle.build.proofs.places.Goals as goal
 
 pub returns-then-source-eq-ADDRESS_4 : goal.returns-then-source-eq-ADDRESS_4

@@ -2,7 +2,6 @@
 use mathlib.Core.Path.{◌∙◌, sym}
 use Rattle.build.specs.Build.{unfit}
 use Rattle.build.proofs.Answers.{differ, alike}
-use borrow.Author.Rules.{rules}
 use Rattle.build.proofs.unfit.Goals as goal
 
 pub returns-then-neither : goal.returns-then-neither

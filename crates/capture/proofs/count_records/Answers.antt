@@ -1,11 +1,8 @@
 -- The loop keeps `Counting`, and what `record_at` answers says how it goes on.
 use mathlib.Core.Path.{sym, ◌∙◌}
-use Prim.Native.Nat.{◌-◌}
 use native.Mathlib.Omega.{arith}
-use lib.ListN.{length}
 use Rattle.capture.proofs.Places.{Passed, past-here}
-use Rattle.capture.proofs.Passes.{Counting, counting-start, counting-record, counting-end, counting-damage}
-use borrow.Author.Rules.{rules}
+use Rattle.capture.proofs.Passes.{counting-start, counting-record, counting-end, counting-damage}
 use Rattle.capture.proofs.count_records.Goals as goal
 
 pub loop-end-init : goal.loop-end-init

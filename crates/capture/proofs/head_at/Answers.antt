@@ -8,7 +8,6 @@ use lib.ListN.{drop, length-drop}
 use lib.Seq.{get_or-drop}
 use Rattle.wire.specs.Bytes.{word_at}
 use Rattle.capture.proofs.Reading.{head-none, head-cut, head-long, head-packet}
-use borrow.Author.Rules.{rules}
 use Rattle.capture.proofs.head_at.Goals as goal
 
 -- the length stands at the place itself

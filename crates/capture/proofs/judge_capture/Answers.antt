@@ -5,7 +5,6 @@ use Rattle.capture.specs.Records.{other_mark, other_edition, records_in}
 use Rattle.capture.specs.Judged.{counted_of}
 use Rattle.capture.specs.declared.Counted.TheVariants.{Whole}
 use Rattle.capture.proofs.Answers as answers
-use borrow.Author.Rules.{rules}
 use Rattle.capture.proofs.judge_capture.Goals as goal
 
 pub returns-then-other_mark : goal.returns-then-other_mark

@@ -1,14 +1,8 @@
 -- The loop keeps `Judging`.
-use mathlib.Core.Path.{sym, ap, ◌∙◌}
-use mathlib.Core.Logic.{⊎_elim}
-use Prim.Native.Nat.{◌-◌}
+use mathlib.Core.Path.{sym, ◌∙◌}
 use native.Mathlib.Omega.{arith}
-use denote.Enum.Declared.{tag_of}
-use lib.ListN.{length}
-use Rattle.capture.specs.contracts.Found.{the_type}
 use Rattle.capture.proofs.Places.{Passed, past-here, none_left}
-use Rattle.capture.proofs.Passes.{Judging, judging-start, judging-place, judging-record, judging-end}
-use borrow.Author.Rules.{rules}
+use Rattle.capture.proofs.Passes.{judging-start, judging-place, judging-record, judging-end}
 use Rattle.capture.proofs.judge_each.Goals as goal
 
 pub loop-start-init : goal.loop-start-init

@@ -1,7 +1,6 @@
 -- Both tests are the definition's.
 use borrow.Author.Tests.{lt-ltb, le-ltb}
 use Rattle.capture.specs.Records.{other_edition}
-use borrow.Author.Rules.{rules}
 use Rattle.capture.proofs.other_edition.Goals as goal
 
 pub returns-then-capture-lt-CAPTURE_HEAD : goal.returns-then-capture-lt-CAPTURE_HEAD

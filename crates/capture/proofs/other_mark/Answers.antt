@@ -1,6 +1,5 @@
 -- Each return is a case of `other_mark`.
 use Rattle.capture.proofs.Heads.{mark-short, mark-first, mark-second, mark-third}
-use borrow.Author.Rules.{rules}
 use Rattle.capture.proofs.other_mark.Goals as goal
 
 pub returns-then-capture-lt-VERSION : goal.returns-then-capture-lt-VERSION

@@ -4,7 +4,6 @@ use native.Mathlib.Omega.{arith}
 use lib.ListN.{drop, length-drop}
 use Rattle.capture.specs.Records.{record_at}
 use Rattle.capture.proofs.Reading.{Headed, head-says, front_cut, front-whole}
-use borrow.Author.Rules.{rules}
 use Rattle.capture.proofs.record_at.Goals as goal
 
 pub overflow_add-start : goal.overflow_add-start

@@ -1,11 +1,7 @@
 -- `chain::fits` meets its contract. The loop keeps `Tested`: what is left fits where the list does, and room is left for it.
 use Prim.Native.Nat.{◌-◌}
-use mathlib.Core.Logic.{⊎_elim}
-use native.Mathlib.Omega.{arith}
-use borrow.Author.Rules.{rules}
-use borrow.Author.Tests.{ltb-true, ltb-false}
 use lib.ListN.{length}
-use Rattle.chain.proofs.Lists.{Tested, tested-start, tested-piece, tested-past, tested-long, tested-end}
+use Rattle.chain.proofs.Lists.{Tested}
 use Rattle.chain.proofs.fits.Given as goal
 
 abbrev pub invariant-loop-i : goal.invariant-loop-i

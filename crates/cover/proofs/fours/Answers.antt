@@ -1,11 +1,7 @@
 -- The loop keeps the fold of what was added up and what is left.
-use Prim.Native.Nat.{◌+◌, ◌-◌, ◌%◌, ◌≤◌}
-use mathlib.Core.Path.{◌≡◌, refl, ◌∙◌}
+use Prim.Native.Nat.{◌+◌}
+use mathlib.Core.Path.{refl, ◌∙◌}
 use native.Mathlib.Omega.{arith}
-use lib.ListN.{length}
-use borrow.Author.Rules.{rules}
-use Rattle.sums.specs.Fold.{fold}
-use Rattle.sums.specs.Low.{rest_at}
 use Rattle.sums.proofs.Rests.{more-four, more-end}
 use Rattle.cover.proofs.fours.Goals as goal
 

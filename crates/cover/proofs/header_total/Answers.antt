@@ -2,7 +2,6 @@
 use mathlib.Core.Path.{refl, sym, ap, ◌∙◌}
 use native.Mathlib.Nat.{zero-add}
 use native.Mathlib.Omega.{arith}
-use borrow.Author.Rules.{rules}
 use Rattle.sums.specs.Fold.{fold}
 use Rattle.sums.proofs.Totals.{low-times}
 use Rattle.sums.proofs.Rests.{more-four, more-eight}

@@ -1,15 +1,14 @@
 -- The addresses and the rest are those of the definition, in each family.
 use mathlib.Core.Path.{◌≡◌, ◌∙◌, refl, sym}
-use Prim.Native.Nat.{ℕ, ◌+◌, ◌-◌, ◌*◌, ◌≤◌}
+use Prim.Native.Nat.{ℕ, ◌+◌, ◌-◌, ◌*◌}
 use native.Mathlib.Omega.{arith}
 use mathlib.Core.List.{List}
-use mathlib.Core.Bool.{true, false}
+use mathlib.Core.Bool.{true}
 use borrow.Author.Tests.{not-true, not-false}
-use borrow.Author.Rules.{rules}
 use Rattle.sums.specs.Total.{weigh}
 use Rattle.sums.proofs.Rests.{more-end}
 use Rattle.wire.specs.Bytes.{part}
-use Rattle.wire.specs.Outer.{four, family_of}
+use Rattle.wire.specs.Outer.{family_of}
 use Rattle.wire.specs.Inner.{protocol_of, start_of, end_of, pseudo, Holds}
 use Rattle.wire.specs.declared.Message.{Message}
 use Rattle.wire.proofs.Parts.{part_length}

@@ -11,7 +11,6 @@ use Rattle.wire.proofs.Facts.{OuterFacts, outer-facts}
 use Rattle.wire.proofs.Held.{after-outer, headed, is-four, is-six}
 use Rattle.kept.specs.Edits.{lifetime_of}
 use Rattle.edit.specs.Rest.{lifetime_in}
-use borrow.Author.Rules.{rules}
 use Rattle.edit.proofs.lower_lifetime.Goals as goal
 
 -- ---- how the lifetime's own rule goes on after the outer ones

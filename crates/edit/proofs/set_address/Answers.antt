@@ -7,7 +7,6 @@ use Rattle.wire.specs.declared.Walked.TheVariants.{Reached}
 use Rattle.wire.proofs.Held.{headed, held_inner}
 use Rattle.kept.specs.Edits.{address_of}
 use Rattle.steps.proofs.Common.{refused-outer, refused-walk, refused-inner, handed-on}
-use borrow.Author.Rules.{rules}
 use Rattle.edit.proofs.set_address.Goals as goal
 
 pub walk-walked-requires : goal.walk-walked-requires

@@ -1,5 +1,4 @@
 -- `folds::aligned` meets its contract: the arm taken is the one that `swap_if` goes by.
-use borrow.Author.Rules.{rules}
 use Rattle.folds.proofs.aligned.Goals as goal
 
 pub returns-then-odd : goal.returns-then-odd

@@ -2,7 +2,6 @@
 use mathlib.Core.Path.{sym, ap, ◌∙◌}
 use mathlib.Core.Bool.{not}
 use native.Mathlib.Nat.{zero-add}
-use borrow.Author.Rules.{rules}
 use Rattle.sums.specs.Fold.{fold}
 use Rattle.sums.specs.Partials.{swap_if}
 use Rattle.sums.proofs.Totals.{fold-from-low}

@@ -1,5 +1,4 @@
 -- `folds::fold_of` meets its contract.
-use borrow.Author.Rules.{rules}
 use native.Mathlib.Omega.{arith}
 use Rattle.sums.proofs.Folds.{fold-as}
 use Rattle.folds.proofs.fold_of.Goals as goal

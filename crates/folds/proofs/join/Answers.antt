@@ -1,6 +1,5 @@
 -- `folds::join` meets its contract.
 use mathlib.Core.Path.{sym, ap, ◌∙◌}
-use borrow.Author.Rules.{rules}
 use native.Mathlib.Omega.{arith}
 use Rattle.verdicts.specs.declared.Verdict.TheVariants.{Good}
 use Rattle.sums.proofs.Joins.{join-good, join-place}

@@ -1,7 +1,6 @@
 -- `folds::join_within` meets its contract.
 use mathlib.Core.Path.{refl, ap, ◌∙◌}
 use Prim.Native.Nat.{◌+◌}
-use borrow.Author.Rules.{rules}
 use Rattle.sums.specs.Fold.{fold}
 use Rattle.sums.specs.Partials.{swap_if}
 use Rattle.sums.proofs.Joins.{partial-path}

@@ -1,6 +1,5 @@
 -- `folds::sum` meets its contract.
 use mathlib.Core.Path.{refl}
-use borrow.Author.Rules.{rules}
 use Rattle.sums.proofs.Joins.{partial-path}
 use Rattle.folds.proofs.sum.Goals as goal
 

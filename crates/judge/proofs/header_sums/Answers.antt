@@ -17,11 +17,10 @@ use Rattle.wire.proofs.Same.{same_self}
 use Rattle.cover.specs.Sums.{header_total}
 use Rattle.cover.proofs.Blocks.{header-some}
 use Rattle.judge.proofs.Answers.{sums4, sums6}
-use borrow.Author.Rules.{rules}
 use Rattle.judge.proofs.header_sums.Goals as goal
 
 pub slice_bounds-header_total-end : goal.slice_bounds-header_total-end
-slice_bounds-header_total-end c = 
+slice_bounds-header_total-end c =
     let P : List ℕ = c.args.packet.now in
     let H : Header = c.args.h in
     let known : Headed P H = headed P H c.requires in
@@ -60,7 +59,7 @@ returns-in-Four c =
     ∙ sums4 P four4
 
 pub returns-in-Six : goal.returns-in-Six
-returns-in-Six c = 
+returns-in-Six c =
     let P : List ℕ = c.args.packet.now in
     let H : Header = c.args.h in
     let known : Headed P H = headed P H c.requires in

@@ -3,7 +3,6 @@ use mathlib.Core.Path.{◌≡◌, ◌∙◌, sym}
 use Prim.Native.Nat.{ℕ}
 use mathlib.Core.List.{List}
 use mathlib.Core.Bool.{true}
-use borrow.Author.Tests.{not-true, not-false}
 use Rattle.wire.specs.Outer.{outer_of}
 use Rattle.wire.specs.Inner.{way_of}
 use Rattle.wire.specs.declared.Header.{Header}
@@ -13,11 +12,10 @@ use Rattle.wire.specs.declared.Walked.TheVariants.{Reached}
 use Rattle.wire.proofs.Held.{headed, held_inner}
 use Rattle.cover.specs.Sums.{header_sums}
 use Rattle.judge.proofs.Answers.{refused, unsound, lost, unfit, summed}
-use borrow.Author.Rules.{rules}
 use Rattle.judge.proofs.judge.Goals as goal
 
 pub header_sums-requires : goal.header_sums-requires
-header_sums-requires c = 
+header_sums-requires c =
     let P : List ℕ = c.args.packet.now in
     let H : Header = c.in-Ip.h in
     let ip : Ip H ≡ outer_of P = sym c.in-Ip.is ∙ c.outer-frame.ensures in
@@ -31,14 +29,14 @@ returns-then-not-header_sums c =
     unsound P H ip (sym c.header_sums.ensures ∙ c.if-not-header_sums.true)
 
 pub walk-walked-requires : goal.walk-walked-requires
-walk-walked-requires c = 
+walk-walked-requires c =
     let P : List ℕ = c.args.packet.now in
     let H : Header = c.in-Ip.h in
     let ip : Ip H ≡ outer_of P = sym c.in-Ip.is ∙ c.outer-frame.ensures in
     ip
 
 pub inner-part-requires : goal.inner-part-requires
-inner-part-requires c = 
+inner-part-requires c =
     let P : List ℕ = c.args.packet.now in
     let H : Header = c.in-Ip.h in
     let ip : Ip H ≡ outer_of P = sym c.in-Ip.is ∙ c.outer-frame.ensures in

@@ -12,11 +12,10 @@ use Rattle.wire.proofs.Held.{held-facts, held-silent, is-four, is-six}
 use Rattle.cover.specs.Sums.{message_sums}
 use Rattle.cover.proofs.Before.{message-low}
 use Rattle.judge.proofs.Answers.{unsummed, missing, bad, good}
-use borrow.Author.Rules.{rules}
 use Rattle.judge.proofs.judge_message.Goals as goal
 
 pub silent-requires : goal.silent-requires
-silent-requires c = 
+silent-requires c =
     let P : List ℕ = c.args.packet.now in
     let field : c.args.m.field ≡ field_at P = ap (λ (m : Message). m.field) c.requires.is in
     let e = field in let f = held-facts c.requires in omega arith
@@ -36,7 +35,7 @@ returns-in-Six c =
     missing P (sym quiet ∙ c.if-silent.true) (is-six P (sym family ∙ c.in-Six.is))
 
 pub slice_bounds-total-count : goal.slice_bounds-total-count
-slice_bounds-total-count c = 
+slice_bounds-total-count c =
     let P : List ℕ = c.args.packet.now in
     let start : c.args.m.start ≡ start_of P = ap (λ (m : Message). m.start) c.requires.is in
     let end : c.args.m.end ≡ end_of P = ap (λ (m : Message). m.end) c.requires.is in
@@ -44,7 +43,7 @@ slice_bounds-total-count c =
     within.0
 
 pub slice_bounds-total-start : goal.slice_bounds-total-start
-slice_bounds-total-start c = 
+slice_bounds-total-start c =
     let P : List ℕ = c.args.packet.now in
     let start : c.args.m.start ≡ start_of P = ap (λ (m : Message). m.start) c.requires.is in
     let end : c.args.m.end ≡ end_of P = ap (λ (m : Message). m.end) c.requires.is in
@@ -52,7 +51,7 @@ slice_bounds-total-start c =
     within.0
 
 pub slice_bounds-total-end : goal.slice_bounds-total-end
-slice_bounds-total-end c = 
+slice_bounds-total-end c =
     let P : List ℕ = c.args.packet.now in
     let start : c.args.m.start ≡ start_of P = ap (λ (m : Message). m.start) c.requires.is in
     let end : c.args.m.end ≡ end_of P = ap (λ (m : Message). m.end) c.requires.is in

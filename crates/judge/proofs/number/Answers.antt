@@ -1,6 +1,5 @@
 -- The verdict's number.
 use mathlib.Core.Path.{◌∙◌, ap}
-use borrow.Author.Rules.{rules}
 use Rattle.verdicts.specs.Numbers.{number_of}
 use Rattle.judge.proofs.number.Goals as goal
 

@@ -2,7 +2,6 @@
 use mathlib.Core.Path.{refl, ◌∙◌}
 use native.Mathlib.Omega.{arith}
 use Rattle.sums.proofs.Rests.{more-eight}
-use borrow.Author.Rules.{rules}
 use Rattle.mend.proofs.after_field.Goals as goal
 
 pub returns : goal.returns

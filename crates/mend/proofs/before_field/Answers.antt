@@ -4,7 +4,6 @@ use native.Mathlib.Nat.{zero-add}
 use native.Mathlib.Omega.{arith}
 use Rattle.sums.specs.Fold.{fold}
 use Rattle.sums.proofs.Rests.{more-two, more-eight, more-end}
-use borrow.Author.Rules.{rules}
 use Rattle.mend.proofs.before_field.Goals as goal
 
 pub returns : goal.returns

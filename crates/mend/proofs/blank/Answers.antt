@@ -11,7 +11,6 @@ use Rattle.wire.proofs.Facts.{Facts}
 use Rattle.wire.proofs.Held.{held-facts}
 use Rattle.mend.proofs.Numbers.{zero-low}
 use Rattle.mend.proofs.Without.{without-low}
-use borrow.Author.Rules.{rules}
 use Rattle.mend.proofs.blank.Goals as goal
 
 record Known (p : List ℕ) (m : Message) : Type 0 where

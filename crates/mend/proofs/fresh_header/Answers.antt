@@ -13,7 +13,6 @@ use Rattle.wire.proofs.Parts.{part_length}
 use Rattle.wire.proofs.Facts.{start-four}
 use Rattle.wire.proofs.Held.{held-facts}
 use Rattle.mend.proofs.Without.{without-low, header-without}
-use borrow.Author.Rules.{rules}
 use Rattle.mend.proofs.fresh_header.Goals as goal
 
 pub slice_bounds-before_field-end : goal.slice_bounds-before_field-end

@@ -16,7 +16,6 @@ use Rattle.cover.proofs.Before.{message-low}
 use Rattle.mend.specs.Fresh.{fresh_message}
 use Rattle.mend.proofs.Numbers.{divides, fresh-some, less-field}
 use Rattle.mend.proofs.Fresh.{aside_f}
-use borrow.Author.Rules.{rules}
 use Rattle.mend.proofs.fresh_message.Goals as goal
 
 -- the word, low byte first

@@ -8,7 +8,6 @@ use Rattle.wire.specs.Outer.{family_of}
 use Rattle.wire.specs.Inner.{field_at, silent_of}
 use Rattle.wire.specs.declared.Message.{Message}
 use Rattle.wire.proofs.Held.{held-facts, held-silent, is-four, is-six}
-use borrow.Author.Rules.{rules}
 use Rattle.mend.proofs.kept.Goals as goal
 
 pub silent-requires : goal.silent-requires

@@ -11,7 +11,6 @@ use Rattle.wire.specs.declared.Carried.{Carried}
 use Rattle.wire.specs.declared.Walked.TheVariants.{Reached}
 use Rattle.wire.proofs.Held.{by_whole, headed, held_inner, refused-outer, refused-walk, inner-whole}
 use Rattle.mend.specs.Mend.{mend_of}
-use borrow.Author.Rules.{rules}
 use Rattle.mend.proofs.mend.Goals as goal
 
 pub walk-walked-requires : goal.walk-walked-requires

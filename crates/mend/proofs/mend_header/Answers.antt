@@ -9,7 +9,6 @@ use Rattle.wire.specs.Outer.{four, family_of, header_field}
 use Rattle.wire.specs.declared.Message.{Message}
 use Rattle.wire.proofs.Held.{held-facts, is-four, is-six}
 use Rattle.mend.specs.Mend.{mended_header}
-use borrow.Author.Rules.{rules}
 use Rattle.mend.proofs.mend_header.Goals as goal
 
 pub fresh_header-fresh-requires : goal.fresh_header-fresh-requires

@@ -8,7 +8,6 @@ use Rattle.wire.specs.Inner.{field_at}
 use Rattle.wire.specs.declared.Message.{Message}
 use Rattle.wire.proofs.Held.{held-facts}
 use Rattle.mend.specs.Mend.{mended_message}
-use borrow.Author.Rules.{rules}
 use Rattle.mend.proofs.mend_message.Goals as goal
 
 pub returns-then-kept : goal.returns-then-kept

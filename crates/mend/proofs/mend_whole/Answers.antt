@@ -4,7 +4,6 @@ use Rattle.wire.proofs.Same.{holds_same}
 use Rattle.wire.proofs.Held.{held-facts}
 use Rattle.mend.specs.Mend.{mended_message}
 use Rattle.mend.proofs.Fresh.{mended-same}
-use borrow.Author.Rules.{rules}
 use Rattle.mend.proofs.mend_whole.Goals as goal
 
 pub mend_message-requires : goal.mend_message-requires

@@ -18,7 +18,6 @@ use Rattle.mend.specs.Fresh.{sent, fresh_message}
 use Rattle.mend.proofs.Numbers.{fresh-udp, fresh-zero, fresh-blank}
 use Rattle.mend.proofs.Fresh.{same_f}
 use Rattle.mend.proofs.Without.{plain-total}
-use borrow.Author.Rules.{rules}
 use Rattle.mend.proofs.zero_field.Goals as goal
 
 pub returns-then-m-eq-UDP : goal.returns-then-m-eq-UDP

@@ -8,7 +8,6 @@ use Rattle.steps.specs.Steps.{unless_missing}
 use Rattle.steps.proofs.Common.{known}
 use Rattle.prefix.specs.Rest.{prefix_in}
 use Rattle.prefix.proofs.Answers.{other-side, other-expected, other-new, sized}
-use borrow.Author.Rules.{rules}
 use Rattle.prefix.proofs.exchange.Goals as goal
 
 pub returns-then-side-gt1 : goal.returns-then-side-gt1

@@ -13,7 +13,6 @@ use Rattle.kept.specs.Edits.{edit_rules, side_at}
 use Rattle.kept.specs.Prefix.{prefix_rules, prefix_left, prefix_of}
 use Rattle.steps.proofs.Common.{refused-outer, refused-walk, refused-inner, handed-on}
 use Rattle.prefix.proofs.Answers.{none, other-version, past-version}
-use borrow.Author.Rules.{rules}
 use Rattle.prefix.proofs.exchange_prefix.Goals as goal
 
 pub returns-then-packet-eq0 : goal.returns-then-packet-eq0

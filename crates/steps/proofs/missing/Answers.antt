@@ -5,7 +5,6 @@ use Rattle.verdicts.proofs.Tests.{by_cases}
 use Rattle.wire.specs.Inner.{silent_of}
 use Rattle.wire.proofs.Held.{held-silent}
 use Rattle.steps.proofs.Common.{known, held-four, held-six}
-use borrow.Author.Rules.{rules}
 use Rattle.steps.proofs.missing.Goals as goal
 
 pub silent-requires : goal.silent-requires

@@ -1,5 +1,5 @@
 -- `sums::passes` meets its contract.
-use Rattle.std.proofs.Common.{arith, rules}
+use Rattle.std.proofs.Common.{arith}
 use Rattle.sums.proofs.Passing.{passes-less}
 use Rattle.sums.proofs.passes.Goals as goal
 

@@ -14,7 +14,6 @@ use Rattle.wire.specs.declared.Row.TheVariants.{Covered}
 use Rattle.wire.specs.declared.Walked.TheVariants.{Reached}
 use Rattle.wire.proofs.Lines.{Named, named, named-icmp, named-tcp, named-udp, named-icmp6, tcp-row, udp-row}
 use Rattle.wire.proofs.Held.{Reaches, reaches}
-use borrow.Author.Rules.{rules}
 use Rattle.wire.proofs.inner.Goals as goal
 
 module _ (p : List ℕ) (c : Carried) (o : IsClear (outer_rules p)) (e : Reached c ≡ way_of p) where

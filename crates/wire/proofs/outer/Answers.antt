@@ -1,7 +1,6 @@
 -- Each return is a case of `outer_of`, or what the family's function ensures.
 use native.Mathlib.Omega.{arith}
 use Rattle.wire.proofs.OuterCases.{none, other}
-use borrow.Author.Rules.{rules}
 use Rattle.wire.proofs.outer.Goals as goal
 
 pub returns-then-packet-eq0 : goal.returns-then-packet-eq0

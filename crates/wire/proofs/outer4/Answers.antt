@@ -1,7 +1,6 @@
 -- Each return is a case of `outer_of` for IPv4.
 use native.Mathlib.Omega.{arith}
 use Rattle.wire.proofs.OuterCases.{short4, words4, total4, fewer4, whole4}
-use borrow.Author.Rules.{rules}
 use Rattle.wire.proofs.outer4.Goals as goal
 
 pub returns-then-packet-lt-LEAST_4 : goal.returns-then-packet-lt-LEAST_4

@@ -1,7 +1,6 @@
 -- Each return is a case of `outer_of` for IPv6.
 use native.Mathlib.Omega.{arith}
 use Rattle.wire.proofs.OuterCases.{short6, fewer6, whole6}
-use borrow.Author.Rules.{rules}
 use Rattle.wire.proofs.outer6.Goals as goal
 
 pub returns-then-packet-lt-LEAST_6 : goal.returns-then-packet-lt-LEAST_6

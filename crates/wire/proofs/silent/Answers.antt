@@ -5,7 +5,6 @@ use native.Mathlib.Omega.{arith}
 use lib.Dec.{eqb}
 use borrow.Author.Tests.{eqb-true, eqb-false, eq-eqb, ne_eqb}
 use Rattle.verdicts.proofs.Tests.{by_cases}
-use borrow.Author.Rules.{rules}
 use Rattle.wire.proofs.silent.Goals as goal
 
 pub returns-then-m-ne-UDP : goal.returns-then-m-ne-UDP

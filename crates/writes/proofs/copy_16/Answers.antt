@@ -1,7 +1,6 @@
 -- Both halves put are all put.
 use native.Mathlib.Omega.{arith}
 use Rattle.wire.proofs.Writes.{put_both}
-use borrow.Author.Rules.{rules}
 use Rattle.writes.proofs.copy_16.Goals as goal
 
 pub returns : goal.returns

@@ -2,7 +2,6 @@
 use native.Mathlib.Numerals.{towards_suc}
 use native.Mathlib.Omega.{arith}
 use Rattle.wire.proofs.Parts.{part-each}
-use borrow.Author.Rules.{rules}
 use Rattle.writes.proofs.eight.Goals as goal
 
 pub returns : goal.returns

@@ -1,9 +1,7 @@
 -- Four stores are the bytes put.
 use native.Mathlib.Omega.{arith}
 use native.Mathlib.Numerals.{towards_suc}
-use lib.ListN.{length-set}
 use Rattle.wire.proofs.Writes.{put-each}
-use borrow.Author.Rules.{rules}
 use Rattle.writes.proofs.put_4.Goals as goal
 
 pub returns : goal.returns

@@ -1,10 +1,10 @@
 -- The invariant: the first i bytes are put.
-use mathlib.Core.Path.{◌≡◌, refl, sym, ◌∙◌}
-use Prim.Native.Nat.{◌+◌, ◌-◌, ◌≤◌}
+use mathlib.Core.Path.{◌≡◌, refl, ◌∙◌}
+use Prim.Native.Nat.{◌+◌, ◌-◌}
 use native.Mathlib.Omega.{arith}
 use lib.ListN.{length, length-set}
 use lib.Seq.{take_all}
-use Rattle.wire.specs.Bytes.{part, put}
+use Rattle.wire.specs.Bytes.{put}
 use Rattle.wire.proofs.Writes.{put_byte, put-ends}
 use Rattle.writes.proofs.put_few.Goals as goal
 

@@ -1,11 +1,8 @@
 -- The invariant: the first i bytes are put.
-use mathlib.Core.Path.{◌≡◌, refl, sym, ◌∙◌}
-use Prim.Native.Nat.{◌+◌, ◌-◌, ◌≤◌}
-use native.Mathlib.Omega.{arith}
-use lib.ListN.{length, length-set}
-use lib.Seq.{take_all}
+use mathlib.Core.Path.{◌≡◌}
+use Prim.Native.Nat.{◌-◌, ◌≤◌}
+use lib.ListN.{length}
 use Rattle.wire.specs.Bytes.{part, put}
-use Rattle.wire.proofs.Writes.{put_byte, put-ends}
 use Rattle.writes.proofs.put_few.Given as goal
 
 abbrev pub invariant-loop-i : goal.invariant-loop-i

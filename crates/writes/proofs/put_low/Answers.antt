@@ -4,7 +4,6 @@ use Prim.Native.Nat.{◌+◌, ◌*◌, ◌/◌, ◌%◌}
 use native.Mathlib.Omega.{arith}
 use native.Mathlib.Numerals.{add-one}
 use Rattle.wire.specs.Bytes.{put}
-use borrow.Author.Rules.{rules}
 use Rattle.writes.proofs.put_low.Goals as goal
 
 pub returns : goal.returns

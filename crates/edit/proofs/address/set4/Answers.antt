@@ -13,7 +13,6 @@ use Rattle.steps.proofs.Changes.{low-change}
 use Rattle.steps.proofs.Common.{Known, known}
 use Rattle.edit.proofs.Made.{part-changes}
 use Rattle.edit.proofs.Sides.{Sided, other-size, sided4, plain4, message4}
-use borrow.Author.Rules.{rules}
 use Rattle.edit.proofs.address.set4.Goals as goal
 
 pub returns-then-address-ne-ADDRESS_4 : goal.returns-then-address-ne-ADDRESS_4

@@ -9,7 +9,6 @@ use Rattle.steps.proofs.Changes.{low-change}
 use Rattle.steps.proofs.Common.{Known, known}
 use Rattle.edit.proofs.Made.{part-changes}
 use Rattle.edit.proofs.Sides.{other-size, sided6, message6}
-use borrow.Author.Rules.{rules}
 use Rattle.edit.proofs.address.set6.Goals as goal
 
 pub returns-then-address-ne-ADDRESS_6 : goal.returns-then-address-ne-ADDRESS_6

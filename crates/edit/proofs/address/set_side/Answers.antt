@@ -3,7 +3,6 @@ use mathlib.Core.Path.{◌∙◌, sym}
 use native.Mathlib.Omega.{arith}
 use Rattle.steps.proofs.Common.{held-four, held-six}
 use Rattle.edit.proofs.Sides.{other-side, summed6}
-use borrow.Author.Rules.{rules}
 use Rattle.edit.proofs.address.set_side.Goals as goal
 
 pub returns-then-missing : goal.returns-then-missing

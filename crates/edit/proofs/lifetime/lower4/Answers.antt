@@ -6,7 +6,6 @@ use mathlib.Core.List.{List}
 use lib.ListN.{length-set}
 use Rattle.verdicts.specs.declared.Verdict.TheVariants.{Good}
 use Rattle.edit.proofs.Made.{spent4, lowered4}
-use borrow.Author.Rules.{rules}
 use Rattle.edit.proofs.lifetime.lower4.Goals as goal
 
 pub returns-then-lifetime-lt2 : goal.returns-then-lifetime-lt2

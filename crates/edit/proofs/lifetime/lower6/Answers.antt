@@ -1,7 +1,6 @@
 -- The two cases of an IPv6 lifetime.
 use native.Mathlib.Omega.{arith}
 use Rattle.edit.proofs.Made.{spent6, lowered6}
-use borrow.Author.Rules.{rules}
 use Rattle.edit.proofs.lifetime.lower6.Goals as goal
 
 pub returns-then-lifetime-lt2 : goal.returns-then-lifetime-lt2

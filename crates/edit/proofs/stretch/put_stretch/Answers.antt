@@ -2,7 +2,6 @@
 use native.Mathlib.Omega.{arith}
 use Rattle.steps.proofs.Common.{Known, known}
 use Rattle.edit.proofs.Made.{stretch-made}
-use borrow.Author.Rules.{rules}
 use Rattle.edit.proofs.stretch.put_stretch.Goals as goal
 
 pub overflow_add-end : goal.overflow_add-end

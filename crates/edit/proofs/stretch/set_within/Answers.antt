@@ -7,7 +7,6 @@ use Rattle.steps.proofs.Common.{Known, known}
 use Rattle.steps.specs.Steps.{unless_missing}
 use Rattle.edit.specs.Rest.{stretch_in}
 use Rattle.edit.proofs.Stretches.{too_long, empty-kept, blank-refused, stretch-set}
-use borrow.Author.Rules.{rules}
 use Rattle.edit.proofs.stretch.set_within.Goals as goal
 
 pub returns-then-missing : goal.returns-then-missing

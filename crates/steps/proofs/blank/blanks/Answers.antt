@@ -4,7 +4,7 @@ use Prim.Native.Nat.{ℕ, ◌+◌, ◌-◌}
 use native.Mathlib.Omega.{arith}
 use mathlib.Core.List.{List}
 use mathlib.Core.Bool.{Bool, true, ◌&&◌, ◌||◌}
-use borrow.Author.Tests.{ne_eqb, not-true, not-false}
+use borrow.Author.Tests.{ne_eqb}
 use lib.ListN.{length}
 use lib.Dec.{eqb}
 use Rattle.wire.specs.Bytes.{part, put}
@@ -12,7 +12,6 @@ use Rattle.wire.specs.Inner.{protocol_of, end_of, field_at, start_of}
 use Rattle.kept.specs.Edits.{all_zero, blank}
 use Rattle.steps.proofs.AllZero.{blanks-made, new-decides}
 use Rattle.steps.proofs.Common.{Known, known}
-use borrow.Author.Rules.{rules}
 use Rattle.steps.proofs.blank.blanks.Goals as goal
 
 pub returns-then-m-ne-ICMP : goal.returns-then-m-ne-ICMP

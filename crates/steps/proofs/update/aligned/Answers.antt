@@ -1,7 +1,6 @@
 -- Two bytes exchanged are FFFF only if they were.
 use mathlib.Core.Path.{sym}
 use native.Mathlib.Omega.{arith}
-use borrow.Author.Rules.{rules}
 use Rattle.steps.proofs.update.aligned.Goals as goal
 
 pub returns-then-odd : goal.returns-then-odd

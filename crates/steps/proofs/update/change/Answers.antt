@@ -2,7 +2,6 @@
 use native.Mathlib.Omega.{arith}
 use Rattle.sums.proofs.Folds.{fold-alike}
 use Rattle.steps.proofs.Changes.{complement}
-use borrow.Author.Rules.{rules}
 use Rattle.steps.proofs.update.change.Goals as goal
 
 pub returns : goal.returns

@@ -7,7 +7,6 @@ use mathlib.Core.Bool.{true}
 use Rattle.sums.specs.Total.{weigh}
 use Rattle.sums.proofs.Folds.{fold-alike}
 use Rattle.steps.proofs.Changes.{complement, low-change}
-use borrow.Author.Rules.{rules}
 use Rattle.steps.proofs.update.change_of.Goals as goal
 
 pub returns : goal.returns

@@ -1,6 +1,5 @@
 -- The field is written unless it is quiet.
 use mathlib.Core.Path.{◌∙◌, sym}
-use borrow.Author.Rules.{rules}
 use Rattle.steps.proofs.update.put_message.Goals as goal
 
 pub returns : goal.returns

@@ -3,7 +3,6 @@ use Prim.Native.Nat.{◌+◌}
 use native.Mathlib.Omega.{arith}
 use Rattle.sums.specs.Low.{two_at}
 use Rattle.steps.proofs.Changes.{renewed-other}
-use borrow.Author.Rules.{rules}
 use Rattle.steps.proofs.update.raised.Goals as goal
 
 pub returns-then-f-lt65534 : goal.returns-then-f-lt65534

@@ -6,7 +6,6 @@ use mathlib.Core.List.{List}
 use Rattle.sums.specs.Low.{two_at}
 use Rattle.wire.specs.Bytes.{byte_at}
 use Rattle.steps.proofs.Changes.{renewed-udp, renewed-other}
-use borrow.Author.Rules.{rules}
 use Rattle.steps.proofs.update.renewed.Goals as goal
 
 pub returns-then-udp : goal.returns-then-udp

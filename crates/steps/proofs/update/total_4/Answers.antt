@@ -4,7 +4,6 @@ use native.Mathlib.Omega.{arith}
 use native.Mathlib.Nat.{zero-add}
 use Rattle.sums.specs.Fold.{fold}
 use Rattle.sums.proofs.Rests.{more-four, more-end}
-use borrow.Author.Rules.{rules}
 use Rattle.steps.proofs.update.total_4.Goals as goal
 
 pub returns : goal.returns

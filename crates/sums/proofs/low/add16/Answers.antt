@@ -1,5 +1,5 @@
 -- Two numbers and the carry.
-use Rattle.std.proofs.Common.{◌+◌, ap, ◌∙◌, add-zero, rules}
+use Rattle.std.proofs.Common.{◌+◌, ap, ◌∙◌, add-zero}
 use Rattle.sums.specs.Fold.{fold}
 use Rattle.sums.specs.Low.{rest_at}
 use Rattle.sums.proofs.low.add16.Goals as goal

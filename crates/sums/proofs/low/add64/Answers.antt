@@ -1,5 +1,5 @@
 -- Twice four numbers, and the carry.
-use Rattle.std.proofs.Common.{◌+◌, ap, ◌∙◌, add-zero, arith, rules}
+use Rattle.std.proofs.Common.{◌+◌, ap, ◌∙◌, add-zero, arith}
 use Rattle.sums.specs.Fold.{fold}
 use Rattle.sums.specs.Low.{rest_at}
 use Rattle.sums.proofs.Rests.{more-none}

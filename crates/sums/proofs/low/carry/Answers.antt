@@ -1,5 +1,5 @@
 -- A sum that wraps is 2 ^ 64 less, and one more is 2 ^ 64 - 1 less, a multiple of 65535.
-use Rattle.std.proofs.Common.{◌+◌, sym, ap, ◌∙◌, arith, rules}
+use Rattle.std.proofs.Common.{◌+◌, sym, ap, ◌∙◌, arith}
 use Rattle.sums.specs.Fold.{fold}
 use Rattle.sums.proofs.Folds.{fold-turns}
 use Rattle.sums.proofs.low.carry.Goals as goal

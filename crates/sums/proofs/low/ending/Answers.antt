@@ -1,5 +1,5 @@
 -- What the shift leaves is the number of the last bytes.
-use Rattle.std.proofs.Common.{◌+◌, ◌-◌, ◌*◌, ◌/◌, ◌%◌, ◌^◌, ap, ◌∙◌, arith, rules}
+use Rattle.std.proofs.Common.{◌+◌, ◌-◌, ◌*◌, ◌/◌, ◌%◌, ◌^◌, ap, ◌∙◌, arith}
 use Rattle.sums.specs.Fold.{fold}
 use Rattle.sums.proofs.Rests.{rest-shifted}
 use Rattle.sums.proofs.low.ending.Goals as goal

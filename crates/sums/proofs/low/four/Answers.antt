@@ -1,5 +1,5 @@
 -- Twice two numbers.
-use Rattle.std.proofs.Common.{◌+◌, ◌∙◌, arith, rules}
+use Rattle.std.proofs.Common.{◌+◌, ◌∙◌, arith}
 use Rattle.sums.proofs.Rests.{more-none}
 use Rattle.sums.proofs.low.four.Goals as goal
 

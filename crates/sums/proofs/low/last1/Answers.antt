@@ -1,5 +1,5 @@
 -- The last byte, where the length is odd.
-use Rattle.std.proofs.Common.{◌≡◌, ◌-◌, ◌%◌, length, get_or, ap, ◌∙◌, arith, rules}
+use Rattle.std.proofs.Common.{◌≡◌, ◌-◌, ◌%◌, length, get_or, ap, ◌∙◌, arith}
 use Rattle.sums.proofs.Rests.{more-end, more-one}
 use Rattle.sums.proofs.low.last1.Goals as goal
 

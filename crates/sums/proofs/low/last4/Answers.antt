@@ -1,5 +1,5 @@
 -- A number more, where the length has it.
-use Rattle.std.proofs.Common.{◌-◌, ◌%◌, length, arith, rules}
+use Rattle.std.proofs.Common.{◌-◌, ◌%◌, length, arith}
 use Rattle.sums.proofs.Rests.{more-none, more-four}
 use Rattle.sums.proofs.low.last4.Goals as goal
 

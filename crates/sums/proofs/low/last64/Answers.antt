@@ -1,5 +1,5 @@
 -- The chain, where n has it.
-use Rattle.std.proofs.Common.{◌+◌, ◌-◌, ◌%◌, ◌∙◌, arith, rules}
+use Rattle.std.proofs.Common.{◌+◌, ◌-◌, ◌%◌, ◌∙◌, arith}
 use Rattle.sums.proofs.Rests.{more-none}
 use Rattle.sums.proofs.low.last64.Goals as goal
 

@@ -1,5 +1,5 @@
 -- A number more, where n has it.
-use Rattle.std.proofs.Common.{◌-◌, ◌%◌, arith, rules}
+use Rattle.std.proofs.Common.{◌-◌, ◌%◌, arith}
 use Rattle.sums.proofs.Rests.{more-none, more-eight}
 use Rattle.sums.proofs.low.last8.Goals as goal
 

@@ -1,5 +1,5 @@
 -- A sum that wraps is 2 ^ 64 less, so with the carry 2 ^ 64 - 1 less, a multiple of 65535.
-use Rattle.std.proofs.Common.{arith, rules}
+use Rattle.std.proofs.Common.{arith}
 use Rattle.sums.proofs.Rests.{step-over, step-under}
 use Rattle.sums.proofs.low.step.Goals as goal
 

@@ -1,5 +1,5 @@
 -- Each part leaves what the next begins with; in the end nothing is left.
-use Rattle.std.proofs.Common.{◌-◌, ◌%◌, length, ◌∙◌, ⊎_elim, arith, rules}
+use Rattle.std.proofs.Common.{◌-◌, ◌%◌, length, ◌∙◌, arith}
 use Rattle.sums.proofs.Rests.{more-none}
 use Rattle.sums.proofs.low.total.Goals as goal
 use Rattle.sums.proofs.low.total.Goals.{then-n-ge128, else-n-ge128}

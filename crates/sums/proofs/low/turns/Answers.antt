@@ -1,8 +1,7 @@
 -- The loop keeps the fold of both totals and what is left.
-use Rattle.std.proofs.Common.{◌≡◌, ◌+◌, ◌-◌, ◌%◌, ◌≤◌, true, ap, ◌∙◌, add-zero, arith, rules}
+use Rattle.std.proofs.Common.{◌+◌, true, ap, ◌∙◌, add-zero, arith}
 use Rattle.sums.specs.Total.{weigh}
 use Rattle.sums.specs.Fold.{fold}
-use Rattle.sums.specs.Low.{rest_at}
 use Rattle.sums.proofs.Folds.{fold-add}
 use Rattle.sums.proofs.Rests.{more-none, rest_more}
 use Rattle.sums.proofs.low.turns.Goals as goal

@@ -1,5 +1,5 @@
 -- Two numbers, one after the other.
-use Rattle.std.proofs.Common.{◌+◌, refl, ◌∙◌, arith, rules}
+use Rattle.std.proofs.Common.{◌+◌, refl, ◌∙◌, arith}
 use Rattle.sums.proofs.Rests.{more-eight}
 use Rattle.sums.proofs.low.two.Goals as goal
 

@@ -2,7 +2,7 @@
 use mathlib.Core.Path.{◌∙◌}
 use native.Mathlib.Omega.{arith}
 use borrow.Author.Tests.{ne_eqb}
-use Rattle.wire.proofs.InnerCases.{Room, room, short, fits}
+use Rattle.wire.proofs.InnerCases.{room, short, fits}
 use Rattle.wire.proofs.protocols.icmp.Goals as goal
 
 pub overflow_sub-c : goal.overflow_sub-c

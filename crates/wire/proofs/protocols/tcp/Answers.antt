@@ -1,8 +1,7 @@
 -- Each return is a case of `inner_of` for TCP.
 use mathlib.Core.Path.{refl, ◌∙◌}
 use native.Mathlib.Omega.{arith}
-use Rattle.wire.proofs.InnerCases.{Room, room, short, under, past, fits}
-use borrow.Author.Rules.{rules}
+use Rattle.wire.proofs.InnerCases.{room, short, under, past, fits}
 use Rattle.wire.proofs.protocols.tcp.Goals as goal
 
 pub overflow_sub-length : goal.overflow_sub-length

@@ -1,9 +1,7 @@
 -- Each return is a case of `inner_of` for UDP.
 use mathlib.Core.Path.{refl, ◌∙◌}
-use mathlib.Core.Logic.{⊎_elim}
 use native.Mathlib.Omega.{arith}
-use Rattle.wire.proofs.InnerCases.{Room, room, short, under, past, fits}
-use borrow.Author.Rules.{rules}
+use Rattle.wire.proofs.InnerCases.{room, short, under, past, fits}
 use Rattle.wire.proofs.protocols.udp.Goals as goal
 use Rattle.wire.proofs.protocols.udp.Goals.{then-own-length+else-own-plan+else-length-own, else-own-length}
 

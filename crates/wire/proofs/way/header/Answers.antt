@@ -1,9 +1,7 @@
 -- Each return is a case of `met_of` for a header that may be passed.
 use mathlib.Core.Path.{sym, ◌∙◌}
 use native.Mathlib.Omega.{arith}
-use Rattle.wire.specs.Chain.{Passable}
 use Rattle.wire.proofs.Meeting.{ninth, short, past, segments, passed}
-use borrow.Author.Rules.{rules}
 use Rattle.wire.proofs.way.header.Goals as goal
 
 pub returns-then-left-eq0 : goal.returns-then-left-eq0

@@ -2,7 +2,6 @@
 use mathlib.Core.Logic.{inl, inr}
 use native.Mathlib.Omega.{arith}
 use Rattle.wire.proofs.Meeting.{message, fragment, tardy}
-use borrow.Author.Rules.{rules}
 use Rattle.wire.proofs.way.meet.Goals as goal
 
 pub returns-then-at-ne-LEAST_6 : goal.returns-then-at-ne-LEAST_6

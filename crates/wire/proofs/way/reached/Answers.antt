@@ -2,7 +2,6 @@
 use native.Mathlib.Omega.{arith}
 use Rattle.wire.specs.Table.{row_of, name_of}
 use Rattle.wire.proofs.Lines.{no-row6}
-use borrow.Author.Rules.{rules}
 use Rattle.wire.proofs.way.reached.Goals as goal
 
 pub returns-in-17 : goal.returns-in-17

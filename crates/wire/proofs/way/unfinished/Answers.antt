@@ -1,7 +1,6 @@
 -- Both tests are those of `unfinished_at`.
 use borrow.Author.Tests.{eq-eqb, ne_eqb}
 use Rattle.wire.specs.Walk.{unfinished_at}
-use borrow.Author.Rules.{rules}
 use Rattle.wire.proofs.way.unfinished.Goals as goal
 
 pub returns-then-next-ne-ROUTING : goal.returns-then-next-ne-ROUTING

@@ -4,7 +4,6 @@ use native.Mathlib.Omega.{arith}
 use Rattle.wire.specs.Table.{row_of, name_of}
 use Rattle.wire.proofs.Lines.{no-row4}
 use Rattle.wire.proofs.Ways.{split4, direct4}
-use borrow.Author.Rules.{rules}
 use Rattle.wire.proofs.way.walk4.Goals as goal
 
 pub returns-then-h : goal.returns-then-h

@@ -4,7 +4,6 @@ use native.Mathlib.Omega.{arith}
 use Rattle.wire.specs.Table.{row_of, name_of}
 use Rattle.wire.specs.Chain.{Other}
 use Rattle.wire.proofs.Ways.{direct6}
-use borrow.Author.Rules.{rules}
 use Rattle.wire.proofs.way.walk6.Goals as goal
 
 udp : Other 17
