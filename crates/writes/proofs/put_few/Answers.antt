@@ -5,7 +5,7 @@ use native.Mathlib.Omega.{arith}
 use lib.ListN.{length, length-set}
 use lib.Seq.{take_all}
 use Rattle.wire.specs.Bytes.{put}
-use Rattle.wire.proofs.Writes.{put_byte, put-ends}
+use Rattle.wire.proofs.Writes.{put_next_one, put-ends}
 use Rattle.writes.proofs.put_few.Goals as goal
 
 pub returns-then-size-ge8 : goal.returns-then-size-ge8
@@ -27,7 +27,7 @@ returns-then-size-i-eq1 c =
     let a = c.args in
     let new = a.new.now in
     let i = c.loop-i.i in
-    put_byte a.s.now a.at new i c.loop-i.invariant.0 (omega arith) ∙ rw (take_all (i + 1) new (omega arith))
+    put_next_one a.s.now a.at new i c.loop-i.invariant.0 (omega arith) ∙ rw (take_all (i + 1) new (omega arith))
 
 pub loop-i-preserved : goal.loop-i-preserved
 loop-i-preserved c =
@@ -36,7 +36,7 @@ loop-i-preserved c =
     let new = a.new.now in
     let i = c.loop-i.i in
     let two : i + 1 + 1 ≡ i + 2 = omega arith in
-    (rw two at (put_byte p a.at new (i + 1) (put_byte p a.at new i c.loop-i.invariant.0 (omega arith)) (omega arith)), omega arith, simp length-set c.loop-i.invariant.2)
+    (rw two at (put_next_one p a.at new (i + 1) (put_next_one p a.at new i c.loop-i.invariant.0 (omega arith)) (omega arith)), omega arith, simp length-set c.loop-i.invariant.2)
 
 pub returns : goal.returns
 returns c =

@@ -18,5 +18,4 @@ returns-in-44 c = fragment _ _ _ _ _ c.in-44.is
 
 pub returns-in_default : goal.returns-in_default
 returns-in_default c =
-    let r = c.in_default.in_default-own.rest in
-    message _ _ _ _ _ (record { hop = r.0.1; routing = λ e. r.1 (inl e); fragment = r.0.0.1; destination = λ e. r.1 (inr e) })
+    message _ _ _ _ _ (record { hop = λ e. omega arith; routing = λ e. grind (arith, inl); fragment = λ e. omega arith; destination = λ e. grind (arith, inr) })
