@@ -1,6 +1,5 @@
 -- The bytes of a UDP packet, field by field in the order of RFC 791, RFC 8200 and RFC 768.
-use Rattle.std.specs.Prelude.{ℕ, ◌+◌, ◌/◌, ◌%◌, List, [], ◌∷◌, ◌++◌, length, eqb}
-use Rattle.verdicts.specs.Choice.{if◌then◌else◌}
+use Rattle.std.specs.Prelude.{ℕ, ◌+◌, ◌/◌, ◌%◌, List, [], ◌∷◌, ◌++◌, length, eqb, if◌then◌else◌}
 use Rattle.wire.specs.declared.Family.{Family}
 use Rattle.wire.specs.declared.Family.TheVariants.{Four, Six}
 use Rattle.mend.specs.Fresh.{fresh_header, fresh_message}

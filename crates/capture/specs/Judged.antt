@@ -1,6 +1,5 @@
 -- The verdicts on a capture's records, and the refusals of a capture.
-use Rattle.std.specs.Prelude.{ℕ, List, [], ◌∷◌, ◌++◌, map, length, ltb}
-use Rattle.verdicts.specs.Choice.{if◌then◌else◌}
+use Rattle.std.specs.Prelude.{ℕ, List, [], ◌∷◌, ◌++◌, map, length, ltb, if◌then◌else◌}
 use Rattle.verdicts.specs.Numbers.{number_of}
 use Rattle.verdicts.specs.Rules.{Rule, ◌⇒◌, first}
 use Rattle.verdicts.specs.declared.Verdict.{Verdict}

@@ -1,4 +1,5 @@
 -- A driver that joins a piece only where its own sum ends has at any time the sum of the buffer's first bytes.
+use Rattle.std.specs.Prelude.{if◌then◌else◌}
 use Prim.Native.Nat.{ℕ, ◌+◌, ◌≤◌}
 use mathlib.Core.Path.{◌≡◌, sym, ap, ◌∙◌}
 use mathlib.Core.List.{List, [], ◌∷◌, ◌++◌}
@@ -8,7 +9,6 @@ use native.Mathlib.Omega.{arith}
 use lib.ListN.{length, take, drop, length-take, length-drop}
 use lib.Seq.{take-add}
 use borrow.Author.Tests.{eqb-true, eq-eqb}
-use Rattle.verdicts.specs.Choice.{if◌then◌else◌}
 use Rattle.verdicts.proofs.Tests.{by_cases}
 use Rattle.sums.specs.Partials.{partial_of, nothing, joined, longest, join_of}
 use Rattle.sums.specs.declared.Partial.{Partial}

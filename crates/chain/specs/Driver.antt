@@ -1,6 +1,5 @@
 -- A careful driver: it joins the sum of a piece only where the sum that it has ends, and leaves every other piece out.
-use Rattle.std.specs.Prelude.{ℕ, List, [], ◌∷◌, Bool, take, drop, eqb}
-use Rattle.verdicts.specs.Choice.{if◌then◌else◌}
+use Rattle.std.specs.Prelude.{ℕ, List, [], ◌∷◌, Bool, take, drop, eqb, if◌then◌else◌}
 use Rattle.sums.specs.Partials.{partial_of, join_of}
 use Rattle.sums.specs.declared.Partial.{Partial}
 

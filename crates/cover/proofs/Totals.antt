@@ -1,10 +1,10 @@
 -- The totals of a packet, as those of parts of it.
+use Rattle.std.specs.Prelude.{if◌then◌else◌}
 use mathlib.Core.Path.{◌≡◌, ap, ◌∙◌}
 use Prim.Native.Nat.{ℕ, ◌+◌, ◌<◌}
 use native.Mathlib.Omega.{arith}
 use mathlib.Core.List.{List}
 use mathlib.Core.Bool.{true, false}
-use Rattle.verdicts.specs.Choice.{if◌then◌else◌}
 use Rattle.verdicts.proofs.Tests.{by_cases}
 use Rattle.sums.specs.Total.{weigh, total}
 use Rattle.sums.proofs.Totals.{weigh-even}

@@ -1,6 +1,5 @@
 -- The sums in use: the IPv4 header's, and that of the message behind its pseudo-header.
-use Rattle.std.specs.Prelude.{ℕ, List, Bool, true}
-use Rattle.verdicts.specs.Choice.{if◌then◌else◌}
+use Rattle.std.specs.Prelude.{ℕ, List, Bool, true, if◌then◌else◌}
 use Rattle.sums.specs.Total.{total}
 use Rattle.sums.specs.Fold.{passes}
 use Rattle.wire.specs.Outer.{four}

@@ -1,4 +1,5 @@
 -- Each verdict comes exactly in its stated case.
+use Rattle.std.specs.Prelude.{if◌then◌else◌}
 use mathlib.Core.Path.{◌≡◌, refl, sym, ◌∙◌}
 use mathlib.Core.Logic.{◌↔◌, ◌⊎◌, ◌≢◌, inl, inr, ⊎_elim}
 use Prim.Native.Nat.{ℕ, ◌+◌, ◌-◌, ◌*◌, ◌/◌, ◌%◌, ◌<◌, ◌≤◌}
@@ -8,7 +9,6 @@ use mathlib.Core.Bool.{Bool, false, not, ◌&&◌, ◌||◌, true≢false}
 use lib.ListN.{length}
 use lib.Dec.{ltb, eqb}
 use borrow.Author.Tests.{ltb-false, eqb-true, eqb-false, eq-eqb, ne_eqb, not-false}
-use Rattle.verdicts.specs.Choice.{if◌then◌else◌}
 use Rattle.verdicts.specs.Numbers.{number_of}
 use Rattle.verdicts.specs.Rules.{IsClear, Decides, Comes}
 use Rattle.verdicts.specs.declared.Verdict.{Verdict}

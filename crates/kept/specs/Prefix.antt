@@ -1,7 +1,6 @@
 -- A prefix exchanged: the first six bytes of an IPv6 address, and the word behind them, so that the address keeps its class modulo
 -- 65535 and no sum field need change (RFC 6296 for prefixes of 48 bits).
-use Rattle.std.specs.Prelude.{ℕ, zero, suc, ◌+◌, ◌/◌, ◌%◌, List, [], ◌∷◌, ◌++◌, Bool, true, false, not, ◌&&◌, ◌||◌, length, eqb}
-use Rattle.verdicts.specs.Choice.{if◌then◌else◌}
+use Rattle.std.specs.Prelude.{ℕ, zero, suc, ◌+◌, ◌/◌, ◌%◌, List, [], ◌∷◌, ◌++◌, Bool, true, false, not, ◌&&◌, ◌||◌, length, eqb, if◌then◌else◌}
 use Rattle.verdicts.specs.Rules.{Rule, ◌⇒◌, first}
 use Rattle.verdicts.specs.declared.Verdict.{Verdict}
 use Rattle.verdicts.specs.declared.Verdict.TheVariants.{Good, Cut, Version, Place}

@@ -1,6 +1,5 @@
 -- RFC 6296 in its own words: what a translator between an inside and an outside prefix of 48 bits writes behind the prefix.
-use Rattle.std.specs.Prelude.{ℕ, ◌+◌, ◌-◌, List, eqb}
-use Rattle.verdicts.specs.Choice.{if◌then◌else◌}
+use Rattle.std.specs.Prelude.{ℕ, ◌+◌, ◌-◌, List, eqb, if◌then◌else◌}
 use Rattle.sums.specs.Total.{total}
 use Rattle.sums.specs.Fold.{fold}
 

@@ -1,6 +1,5 @@
 -- The two fields after new bytes took the place of old ones. A sum is never worked out anew.
-use Rattle.std.specs.Prelude.{ℕ, List, length}
-use Rattle.verdicts.specs.Choice.{if◌then◌else◌}
+use Rattle.std.specs.Prelude.{ℕ, List, length, if◌then◌else◌}
 use Rattle.sums.specs.Total.{odd, weigh}
 use Rattle.sums.specs.Fold.{fold}
 use Rattle.sums.specs.Update.{updated}

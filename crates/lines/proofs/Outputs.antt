@@ -1,4 +1,5 @@
 -- A whole run prints exactly the bytes of the lines that the layout defines.
+use Rattle.std.specs.Prelude.{if◌then◌else◌}
 use mathlib.Core.Path.{◌≡◌, refl, sym, ap, ap₂, ◌∙◌}
 use Prim.Native.Nat.{ℕ, zero, suc, ◌+◌, ◌/◌, ◌%◌, ◌^◌, ◌≤◌, ◌<◌}
 use native.Mathlib.Omega.{arith}
@@ -10,7 +11,6 @@ use lib.Seq.{sets-eq, length-sets, take-append_seam}
 use lib.Dec.{eqb, ltb}
 use borrow.Author.Tests.{lt-ltb, ltb-true}
 use Rattle.io.specs.Digits.{last_digits, hex_digit_ascii}
-use Rattle.verdicts.specs.Choice.{if◌then◌else◌}
 use Rattle.verdicts.specs.Numbers.{number_of}
 use Rattle.verdicts.specs.declared.Verdict.{Verdict}
 use Rattle.verdicts.specs.declared.Verdict.TheVariants as verdict

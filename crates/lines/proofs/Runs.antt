@@ -1,4 +1,5 @@
 -- A whole run decides exactly the lines that the layout defines.
+use Rattle.std.specs.Prelude.{if◌then◌else◌}
 use mathlib.Core.Path.{◌≡◌, refl, sym, ap, ap₂, ◌∙◌}
 use Prim.Native.Nat.{ℕ, zero, suc, ◌+◌, ◌≤◌, ◌<◌}
 use native.Mathlib.Omega.{arith}
@@ -9,7 +10,6 @@ use lib.ListN.{length, take, drop, length-take, length-drop}
 use lib.Seq.{take-take, drop-drop}
 use lib.Dec.{eqb, ltb}
 use borrow.Author.Tests.{ne_eqb, lt-ltb, le-ltb}
-use Rattle.verdicts.specs.Choice.{if◌then◌else◌}
 use Rattle.verdicts.specs.Numbers.{number_of}
 use Rattle.verdicts.specs.declared.Verdict.TheVariants.{Mark, Edition, Record}
 use Rattle.verdicts.proofs.Tests.{by_cases}

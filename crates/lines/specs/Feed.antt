@@ -1,6 +1,5 @@
 -- What decides the lines, a piece of the input at a time.
-use Rattle.std.specs.Prelude.{ℕ, ◌+◌, List, [], length, take, eqb, ltb}
-use Rattle.verdicts.specs.Choice.{if◌then◌else◌}
+use Rattle.std.specs.Prelude.{ℕ, ◌+◌, List, [], length, take, eqb, ltb, if◌then◌else◌}
 use Rattle.verdicts.specs.Numbers.{number_of}
 use Rattle.verdicts.specs.Rules.{first}
 use Rattle.verdicts.specs.declared.Verdict.{Verdict}

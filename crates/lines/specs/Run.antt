@@ -1,6 +1,5 @@
 -- A whole run of the program over an input: want, read that many bytes or what is left, feed, print, and so on.
-use Rattle.std.specs.Prelude.{ℕ, zero, suc, List, [], ◌∷◌, ◌++◌, take, drop, eqb}
-use Rattle.verdicts.specs.Choice.{if◌then◌else◌}
+use Rattle.std.specs.Prelude.{ℕ, zero, suc, List, [], ◌∷◌, ◌++◌, take, drop, eqb, if◌then◌else◌}
 use Rattle.lines.specs.Feed.{want_of, decided_of, fed_of}
 use Rattle.lines.specs.declared.State.{State}
 use Rattle.lines.specs.declared.Line.{Line}

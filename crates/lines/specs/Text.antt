@@ -1,9 +1,8 @@
 -- Numbers and words as the bytes that are printed.
-use Rattle.std.specs.Prelude.{ℕ, zero, suc, ◌+◌, ◌/◌, List, [], ◌∷◌, length, ltb}
+use Rattle.std.specs.Prelude.{ℕ, zero, suc, ◌+◌, ◌/◌, List, [], ◌∷◌, length, ltb, if◌then◌else◌}
 use Prim.Native.Char.{code}
 use Prim.Native.String.{String, [] as nil, ◌∷◌ as cons}
 use Rattle.io.specs.Digits.{last_digits}
-use Rattle.verdicts.specs.Choice.{if◌then◌else◌}
 use Rattle.wire.specs.Bytes.{put}
 
 -- no line has more bytes

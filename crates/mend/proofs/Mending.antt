@@ -1,4 +1,5 @@
 -- The theorems of mending: what it answers, what it changes, what the judge says of it, and that a good packet stands.
+use Rattle.std.specs.Prelude.{if◌then◌else◌}
 use mathlib.Core.Path.{◌≡◌, refl, sym, ap, ◌∙◌}
 use mathlib.Core.Logic.{◌↔◌, ◌⊎◌, inl, inr, ⊎_elim}
 use Prim.Native.Nat.{ℕ, suc, ◌+◌, ◌/◌, ◌%◌, ◌<◌, ◌≤◌}
@@ -10,7 +11,6 @@ use mathlib.Core.Bool.{true, false, ◌&&◌, true≢false}
 use lib.ListN.{length}
 use lib.Seq.{set-get_or}
 use borrow.Author.Tests.{eqb-false}
-use Rattle.verdicts.specs.Choice.{if◌then◌else◌}
 use Rattle.verdicts.specs.Rules.{IsClear, Comes}
 use Rattle.verdicts.specs.declared.Verdict.{Verdict}
 use Rattle.verdicts.specs.declared.Verdict.TheVariants.{Good, Unsummed}

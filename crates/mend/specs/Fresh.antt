@@ -1,6 +1,5 @@
 -- The two sum fields: which of them is in use, and its fresh value, worked out with that field read as 0000.
-use Rattle.std.specs.Prelude.{ℕ, ◌≡◌, List, Bool, true, not, ◌&&◌, eqb}
-use Rattle.verdicts.specs.Choice.{if◌then◌else◌}
+use Rattle.std.specs.Prelude.{ℕ, ◌≡◌, List, Bool, true, not, ◌&&◌, eqb, if◌then◌else◌}
 use Rattle.sums.specs.Fold.{fold, field_of}
 use Rattle.wire.specs.Bytes.{word_at, put_word}
 use Rattle.wire.specs.Outer.{four, header_field}

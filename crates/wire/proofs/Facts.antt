@@ -1,4 +1,5 @@
 -- What is known of a packet's header whose shape nothing refuses, and of its message.
+use Rattle.std.specs.Prelude.{if◌then◌else◌}
 use mathlib.Core.Path.{◌≡◌, refl}
 use Prim.Native.Nat.{ℕ, ◌+◌, ◌-◌, ◌*◌, ◌/◌, ◌%◌, ◌<◌, ◌≤◌}
 use native.Mathlib.Omega.{arith}
@@ -7,7 +8,6 @@ use mathlib.Core.Bool.{true, false, true≢false}
 use lib.ListN.{length}
 use lib.Dec.{ltb, eqb}
 use borrow.Author.Tests.{ltb-false, eqb-true}
-use Rattle.verdicts.specs.Choice.{if◌then◌else◌}
 use Rattle.verdicts.specs.Rules.{IsClear}
 use Rattle.verdicts.specs.declared.Verdict.TheVariants.{Fragment}
 use Rattle.verdicts.proofs.Tests.{by_cases, or-false}

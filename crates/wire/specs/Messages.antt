@@ -1,7 +1,6 @@
 -- A message by itself, whatever carries it: its shape, where it ends, and the block that its field covers, over family, protocol,
 -- the two addresses and the message's bytes.
-use Rattle.std.specs.Prelude.{ℕ, ◌*◌, ◌/◌, ◌%◌, List, [], ◌∷◌, ◌++◌, Bool, ◌&&◌, ◌||◌, length, ltb, eqb}
-use Rattle.verdicts.specs.Choice.{if◌then◌else◌}
+use Rattle.std.specs.Prelude.{ℕ, ◌*◌, ◌/◌, ◌%◌, List, [], ◌∷◌, ◌++◌, Bool, ◌&&◌, ◌||◌, length, ltb, eqb, if◌then◌else◌}
 use Rattle.verdicts.specs.Rules.{Rule, ◌⇒◌}
 use Rattle.verdicts.specs.declared.Verdict.TheVariants.{Shape}
 use Rattle.verdicts.specs.declared.Verdict.TheVariants as verdict

@@ -1,6 +1,5 @@
 -- The way from the IP header to the message: in IPv4 there is none, in IPv6 it leads over the headers between (RFC 8200, 4).
-use Rattle.std.specs.Prelude.{ℕ, zero, suc, ◌+◌, ◌*◌, List, [], ◌∷◌, Bool, false, not, ◌&&◌, ◌||◌, ltb, eqb}
-use Rattle.verdicts.specs.Choice.{if◌then◌else◌}
+use Rattle.std.specs.Prelude.{ℕ, zero, suc, ◌+◌, ◌*◌, List, [], ◌∷◌, Bool, false, not, ◌&&◌, ◌||◌, ltb, eqb, if◌then◌else◌}
 use Rattle.verdicts.specs.Numbers.{number_of}
 use Rattle.verdicts.specs.Rules.{Rule, ◌⇒◌, first}
 use Rattle.verdicts.specs.declared.Verdict.{Verdict}
