@@ -12,15 +12,15 @@ read_by=$PWD/scripts/unused.awk
 
 list() { # FOLDER
     status=0
-    found=$(find "$1/crates" -name '*.antt' -o -name '*.rt' | LC_ALL=C sort |
+    found=$(find "$1"/crates/*/src "$1"/crates/*/specs "$1"/crates/*/proofs -name '*.antt' -o -name '*.rt' | LC_ALL=C sort |
         LC_ALL=C xargs awk -v root="$1" -f "$read_by" "$1/docs/PROMISES.md") || status=1
     echo "$found" | LC_ALL=C sort -t : -k 1,1 -k 2,2n -k 3
     return $status
 }
 
-# A sample whose every name is used, in each way that a name can be.
+# A sample whose every name is used, in each way that a name can be. What is in out/ is rt's.
 sample() { # FOLDER
-    mkdir -p "$1/docs" "$1/crates/a/src" "$1/crates/a/specs" "$1/crates/a/proofs/do_it" "$1/crates/a/proofs/parts/go_on"
+    mkdir -p "$1/docs" "$1/crates/a/out" "$1/crates/a/src" "$1/crates/a/specs" "$1/crates/a/proofs/do_it" "$1/crates/a/proofs/parts/go_on"
     cat >"$1/docs/PROMISES.md" <<'END'
 The law `promised`, and `a, listed`.
 END
@@ -113,6 +113,7 @@ struct Held {
     ghost fits: { of ≡ limit },
 }
 END
+    echo 'use b::Spare;' >"$1/crates/a/out/lib.rt"
 }
 
 # Puts an import after a file's first line.

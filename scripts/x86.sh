@@ -33,11 +33,12 @@ compiles() { # LANGUAGE COMPILER..
     return "$status"
 }
 
-# What the archive is made of, by content: times of files say too little after a checkout or a removal.
+# What the archive is made of, by content: times of files say too little after a checkout or a removal. A crate's out/ is
+# rt's own, and has sources too.
 made_of() { # ARCHIVE
     {
         rt version
-        find crates.txt crates -name '*.rt' -o -name '*.antt' -o -name crates.txt | LC_ALL=C sort | xargs cksum
+        find crates.txt crates/*/src crates/*/specs crates/*/proofs -type f | LC_ALL=C sort | xargs cksum
         cksum <"$1"
     } | cksum
 }
