@@ -7,7 +7,7 @@ CAPTURE =
 
 help:
 	@echo "make run      judge a sample capture (CAPTURE=file: that one; CAPTURE=-: standard input)"
-	@echo "make test     the gate: prove everything from nothing, run all tests"
+	@echo "make test     the gate: prove everything that it has not passed here before, run all tests"
 	@echo "make lib      the archive for C: target/staticlib/libhifrostum.a (x86-64 Linux)"
 	@echo "make fuzz     fresh cases through both implementations (SEED, COUNT)"
 	@echo "make interop  scapy, the kernel and tshark, and the Rust wrapper (root)"
@@ -36,4 +36,4 @@ bench:
 	@bench/run.sh
 
 fmt:
-	rt fmt
+	@for crate in crates/*/; do (cd "$$crate" && rt fmt) || exit; done

@@ -18,10 +18,7 @@ fail() {
 }
 
 archive=$($x86 lib)/libhifrostum.a
-if [ -z "${JUDGE_CAPTURE:-}" ]; then
-    rt check judge_capture
-fi
-judge_capture=${JUDGE_CAPTURE:-target/bin/judge_capture}
+judge_capture=${JUDGE_CAPTURE:-$($x86 program judge_capture)}
 mkdir -p $out
 
 # The changes' newest entry is about the header's version.

@@ -18,7 +18,7 @@ case $capture in
     ;;
 esac
 cd "$(dirname "$0")/.."
-{ scripts/setup.sh run && rt check judge_capture; } </dev/null >&2 || exit 2
+{ scripts/setup.sh run && scripts/x86.sh program judge_capture; } </dev/null >&2 || exit 2
 
 work=$(mktemp -d)
 trap 'rm -rf "$work"' EXIT

@@ -10,7 +10,8 @@ function note(kind, name) {
     seen[file, kind, name] = seen[file, kind, name] " " FNR
 }
 
-# Notes the names in a line of antt. 'x .f' is a field, 'x.f' is f of a module, and in '{ f = ..; g = .. }' f and g are fields.
+# Notes the names in a line of antt. 'x.f' is a field of x or f of a module x, whichever x is, '(x).f' is a field, and in
+# '{ f = ..; g = .. }' f and g are fields.
 function read_terms(text, n, i, t, before, word) {
     gsub(/[(){};,]/, " & ", text)
     n = split(text, word, " ")
@@ -20,7 +21,8 @@ function read_terms(text, n, i, t, before, word) {
         if (t ~ /^\../ || (i < n && word[i + 1] == "=" && before ~ /^[{;]$/)) continue
         sub(/\.$/, "", t)
         if (t ~ /.\../) {
-            note("within", t)
+            match(t, /^[^.]+\.[^.]+/)
+            note("within", substr(t, 1, RLENGTH))
             sub(/\..*/, "", t)
         }
         note("term", t)
@@ -33,28 +35,33 @@ function read_code(text, n, i, word) {
     for (i = 1; i <= n; i++) note("code", word[i])
 }
 
-# A contract's facts stand between ⌜ and ⌝, perhaps over several lines.
-function read_facts(text, at) {
+# A contract's facts stand in the braces of 'requires { .. }', 'ensures name { .. }' or 'ghost name: { .. }', perhaps over
+# several lines, or behind 'ghost name =', on one line.
+function read_facts(text, fact) {
+    if (!braces && match(text, /^[ \t]*ghost +[A-Za-z0-9_]+ *= *[^{ ]/)) read_terms(substr(text, RLENGTH))
     while (text != "") {
-        at = index(text, in_fact ? "⌝" : "⌜")
-        if (in_fact) read_terms(at ? substr(text, 1, at - 1) : text)
-        if (!at) return
-        in_fact = !in_fact
-        text = substr(text, at + length("⌜"))
+        if (!braces) {
+            if (!match(text, /(^|[^A-Za-z0-9_])((requires|ensures)[*]?( +[A-Za-z0-9_]+)?|ghost +[A-Za-z0-9_]+ *[:=]) *\{/)) return
+            text = substr(text, RSTART + RLENGTH)
+            braces = 1
+        }
+        for (fact = ""; braces && match(text, /[{}]/); text = substr(text, RSTART + 1)) {
+            fact = fact substr(text, 1, RSTART)
+            braces += substr(text, RSTART, 1) == "{" ? 1 : -1
+        }
+        read_terms(braces ? fact text : fact)
+        if (braces) return
     }
 }
 
 # ---- imports
 
-# The file of a path such as Rattle·mend·proofs.proofs.Numbers; nothing for one of the kit's.
-function home(path, at, crate) {
-    at = match(path, /\.(specs|proofs)\./)
-    if (path !~ /^Rattle·/ || at == 0) return ""
-    crate = substr(path, 1, at - 1)
-    path = substr(path, at + 1)
-    sub(/^Rattle·/, "", crate); sub(/·.*/, "", crate)
+# The file of a path such as Rattle.mend.proofs.Numbers; nothing for one outside a crate. One of the kit's has no such file.
+function home(path) {
+    if (path !~ /^Rattle\.[^.]+\.(specs|proofs)\../) return ""
+    sub(/^Rattle\./, "", path)
     gsub(/\./, "/", path)
-    return root "/crates/" crate "/" path ".antt"
+    return root "/crates/" path ".antt"
 }
 
 # 'a', or 'a as b', which binds b. The law is nothing where a whole module is bound.
@@ -65,6 +72,7 @@ function import(entry, path, law, kind) {
     i_law[imports] = law
     sub(/^.* as /, "", entry)
     i_name[imports] = entry
+    if (path ~ /\.(Goals|Given)$/) goals[file, entry] = 1
 }
 
 function read_use(text, kind, path, n, i, entry) {
@@ -82,6 +90,7 @@ function read_use(text, kind, path, n, i, entry) {
     } else {
         sub(/ as .*/, "", path)
         if (kind == "code") sub(/^.*::/, "", text)
+        else if (text !~ / as /) sub(/^.*\./, "", text)
         import(text, path, "", kind)
     }
 }
@@ -99,11 +108,11 @@ function close_from(depth, end) {
 }
 
 # Sees whether a line of antt begins a definition. The fields of a record are none, and a constructor stands for its type.
-function read_head(text, depth, n, k, i, word) {
+function read_head(text, depth, n, k, i, word, public) {
     depth = match(text, /[^ ]/) - 1
     gsub(/[(){};,]/, " & ", text)
     n = split(text, word, " ")
-    for (k = 1; k < n && word[k] ~ /^(pub|abbrev|unfoldable|private)$/; k++) ;
+    for (k = 1; k < n && word[k] ~ /^(pub|abbrev|unfoldable|private)$/; k++) public = public || word[k] == "pub"
     if (shape != "" && depth > shape_depth) {
         if (shape == "data" && word[k + 1] == ":") {
             made[file, word[k]] = definitions
@@ -122,7 +131,10 @@ function read_head(text, depth, n, k, i, word) {
         for (i = k; i < n && word[i] !~ /^([(){};,:=]|let|in|where|λ|unfolding)$/; i++) ;
         if (word[i] != ":" || i == k) return
         close_from(depth, FNR - 1)
-        while (k < i) define(word[k++], depth)
+        while (k < i) {
+            define(word[k++], depth)
+            if (public) d_type[definitions] = word[i + 1]
+        }
         shape = ""
     }
 }
@@ -134,7 +146,7 @@ FNR == 1 {
     file = FILENAME
     files++
     code = file ~ /\.rt$/
-    shape = ""; pending = ""; in_fact = 0
+    shape = ""; pending = ""; braces = 0
 }
 { here = FNR }
 
@@ -184,21 +196,24 @@ function stands(file, kind, name, a, b, n, i, list) {
     return 0
 }
 
-# The same, where an operator such as if_then_else_ stands if all its parts do.
+# The same, where an operator such as if◌then◌else◌ stands if all its parts do.
 function used(file, kind, name, a, b, n, i, part) {
     if (stands(file, kind, name, a, b)) return 1
-    if (kind == "code" || name !~ /_/) return 0
-    n = split(name, part, "_")
+    if (kind == "code" || name !~ /◌/) return 0
+    n = split(name, part, "◌")
     for (i = 1; i <= n; i++)
         if (part[i] != "" && !stands(file, kind, part[i], a, b)) return 0
     return 1
 }
 
-# Whether the kit asks for it: in proofs/F/Proof.antt the law F-spec, with - for each _ of F.
-function asked(d, path, n) {
+# Whether the kit reads it: in proofs/F/Answers.antt and proofs/F/Invariants.antt what is public, has the name of a goal
+# and its type, goal.NAME of the kit's Goals or Given; in proofs/F/Proof.antt the law F_spec.
+function asked(d, path, n, part) {
     n = split(d_file[d], path, "/")
-    gsub(/_/, "-", path[n - 1])
-    return path[n] == "Proof.antt" && d_name[d] == path[n - 1] "-spec"
+    if (path[n - 1] == "proofs") return 0
+    if (path[n] == "Proof.antt") return d_name[d] == path[n - 1] "_spec"
+    return path[n] ~ /^(Answers|Invariants)\.antt$/ && split(d_type[d], part, ".") == 2 &&
+        (d_file[d], part[1]) in goals && part[2] == d_name[d]
 }
 
 function cited(d, n, k, i, list) {

@@ -8,6 +8,7 @@
 #   x86.sh name             prints the name of the C compiler
 #   x86.sh native           exit status 0 on an x86-64 machine
 #   x86.sh lib              makes the archive anew unless it was made of these crates by this kit, and prints its folder
+#   x86.sh program NAME     proves and builds the program of a crate, if that changed, and prints where it is
 #
 # On x86-64 these are the machine's own compiler and nothing, elsewhere Debian's cross compiler and its
 # emulator. HIFROSTUM_LIB_DIR names a folder with another libhifrostum.a, which is then never made.
@@ -32,11 +33,12 @@ compiles() { # LANGUAGE COMPILER..
     return "$status"
 }
 
-# What the archive is made of, by content: times of files say too little after a checkout or a removal.
+# What the archive is made of, by content: times of files say too little after a checkout or a removal. A crate's out/ is
+# rt's own, and has sources too.
 made_of() { # ARCHIVE
     {
         rt version
-        find crates.txt crates -name '*.rt' -o -name '*.antt' -o -name crates.txt | LC_ALL=C sort | xargs cksum
+        find crates.txt crates/*/src crates/*/specs crates/*/proofs -type f | LC_ALL=C sort | xargs cksum
         cksum <"$1"
     } | cksum
 }
@@ -47,11 +49,27 @@ archive() {
     if [ -z "${HIFROSTUM_LIB_DIR:-}" ]; then
         file=$dir/libhifrostum.a
         if [ ! -f "$file" ] || [ ! -f "$dir/made-of" ] || [ "$(made_of "$file")" != "$(cat "$dir/made-of")" ]; then
-            rt staticlib hifrostum >&2
+            (cd crates/hifrostum && rt lib) >&2
+            mkdir -p "$dir"
+            cp crates/hifrostum/out/libhifrostum.a "$file"
             made_of "$file" >"$dir/made-of"
         fi
     fi
     echo "$dir"
+}
+
+# rt builds a program only to run it: here once, on no input, which changes nothing. It is copied to a new file, so that
+# nobody who runs it meanwhile is in the way.
+program() { # NAME
+    cd "$(dirname "$0")/.."
+    (cd "crates/$1" && rt run </dev/null >/dev/null)
+    file=$PWD/target/bin/$1
+    if ! cmp -s "crates/$1/out/$1" "$file"; then
+        mkdir -p target/bin
+        cp "crates/$1/out/$1" "$file.$$"
+        mv -f "$file.$$" "$file"
+    fi
+    echo "$file"
 }
 
 what=${1:-}
@@ -67,6 +85,7 @@ run) exec $emulator "$@" ;;
 name) echo "$cc" ;;
 native) [ $native = yes ] ;;
 lib) archive ;;
+program) program "$@" ;;
 has)
     case ${1:-} in
     cc) compiles c $cc ;;
@@ -77,7 +96,7 @@ has)
     esac
     ;;
 *)
-    sed -n '2,14s/^# \{0,1\}//p' "$0" >&2
+    sed -n '2,15s/^# \{0,1\}//p' "$0" >&2
     exit 2
     ;;
 esac

@@ -49,11 +49,11 @@ records 1 good 0 unsummed 0 refused 1' "$(printed)"
 { printf 'GLR\000\001\010\001' && head -c 2049 /dev/zero; } >"$dir/in"
 same 'a record of 2,049' 'stopped 15 after 0' "$(printed)"
 
-# A read that fails is told from the end of input, in words.
+# A read that fails is told from the end of input, in words and by the exit status.
 words() { if grep -q 'cannot read standard input' "$dir/said"; then echo yes; else cat "$dir/said"; fi; }
-same 'a directory' '' "$("$x86" run "$judge_capture" <"$dir" 2>"$dir/said")"
+same 'a directory' 'exit status 1' "$("$x86" run "$judge_capture" <"$dir" 2>"$dir/said" || echo "exit status $?")"
 same 'a directory, in words' yes "$(words)"
-same 'a closed standard input' '' "$("$x86" run "$judge_capture" <&- 2>"$dir/said")"
+same 'a closed standard input' 'exit status 1' "$("$x86" run "$judge_capture" <&- 2>"$dir/said" || echo "exit status $?")"
 same 'a closed standard input, in words' yes "$(words)"
 
 # A live radio: the first record's line is there while the second is still awaited.
