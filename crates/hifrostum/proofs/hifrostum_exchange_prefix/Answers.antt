@@ -2,7 +2,6 @@
 use mathlib.Core.Path.{◌∙◌, ap}
 use Prim.Native.Nat.{ℕ}
 use Rattle.hifrostum.specs.Answers.{numbered}
-use borrow.Author.Rules.{rules}
 use Rattle.hifrostum.proofs.hifrostum_exchange_prefix.Goals as goal
 
 pub returns : goal.returns

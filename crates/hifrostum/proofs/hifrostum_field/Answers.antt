@@ -1,7 +1,6 @@
 -- The sum's fold, complemented.
 use mathlib.Core.Path.{◌∙◌, ap}
 use Rattle.sums.specs.Fold.{field_of}
-use borrow.Author.Rules.{rules}
 use Rattle.hifrostum.proofs.hifrostum_field.Goals as goal
 
 pub returns : goal.returns

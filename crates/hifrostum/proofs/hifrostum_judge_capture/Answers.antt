@@ -2,7 +2,6 @@
 use mathlib.Core.Path.{◌∙◌, ap}
 use Prim.Native.Nat.{ℕ}
 use Rattle.hifrostum.specs.Answers.{counted}
-use borrow.Author.Rules.{rules}
 use Rattle.hifrostum.proofs.hifrostum_judge_capture.Goals as goal
 
 pub returns : goal.returns
