@@ -175,28 +175,32 @@ good-kept p b g u n =
     ext_get_or 0 (mend_of p).1 p (mend-length p)
     (λ i l. ⊎_elim (λ e. e) (λ x. absurd (⊎_elim (λ h. n h.0 h.2) (λ h. true≢false (sym u ∙ h.0)) x.0)) (good-stands p b (inl g) i))
 
-module _ (a : Asked) (buffer : List ℕ) {n : ℕ} {q : List ℕ} (e : Builds a buffer n q) where
-  its_own : four (take n q) ≡ true → word_at (take n q) header_field ≢ 65535
-  unfolding packet_of
-  its_own = rw (is a buffer e) (field-some (family_for a.source) a (fits a (fit a buffer e)))
+-- a good packet of bytes that has what was asked for, is plain, and whose header field isn't FFFF is the one that is built
+pub built-only : (a : Asked) (buffer : List ℕ) {n : ℕ} {q : List ℕ} → Builds a buffer n q
+    → (p : List ℕ) → Bytes p → Reads a p → Plain p → judge_of p ≡ Good → (four p ≡ true → word_at p header_field ≢ 65535) → p ≡ take n q
+unfolding mend_of packet_of
+built-only a buffer e p b r l g o =
+    let c = accepted p Good (omega arith) g in
+    let k = whole-facts p c.0 in
+    let m = word_at p (start_of p + 6) in
+    let h = word_at p header_field in
+    let f = family_for a.source in
+    let s = laid_so b k r l in
+    sym (good-kept p b g (is-udp b k r) o)
+    ∙ ap (λ (x : Verdict × List ℕ). x.1) (call-done (whole_rules p) p (mended_message (mended_header p)) c.0)
+    ∙ ap (λ x. mended_message (mended_header x)) s
+    ∙ laid-mended f a h m (fits a (fit a buffer e)) (ap silent_of (sym s) ∙ (verdict-good p c.2).0)
+    ∙ sym (is a buffer e)
 
-  -- a good packet of bytes that has what was asked for, is plain, and whose header field isn't FFFF is the one that is built
-  pub built-only : (p : List ℕ) → Bytes p → Reads a p → Plain p → judge_of p ≡ Good → (four p ≡ true → word_at p header_field ≢ 65535) → p ≡ take n q
-  unfolding mend_of packet_of
-  built-only p b r l g o =
-      let c = accepted p Good (omega arith) g in
-      let k = whole-facts p c.0 in
-      let m = word_at p (start_of p + 6) in
-      let h = word_at p header_field in
-      let f = family_for a.source in
-      let s = laid_so b k r l in
-      sym (good-kept p b g (is-udp b k r) o)
-      ∙ ap (λ (x : Verdict × List ℕ). x.1) (call-done (whole_rules p) p (mended_message (mended_header p)) c.0)
-      ∙ ap (λ x. mended_message (mended_header x)) s
-      ∙ laid-mended f a h m (fits a (fit a buffer e)) (ap silent_of (sym s) ∙ (verdict-good p c.2).0)
-      ∙ sym (is a buffer e)
+-- the header field of the packet that is built isn't FFFF
+its_own : (a : Asked) (buffer : List ℕ) {n : ℕ} {q : List ℕ} → Builds a buffer n q → four (take n q) ≡ true → word_at (take n q) header_field ≢ 65535
+unfolding packet_of
+its_own a buffer e = rw (is a buffer e) (field-some (family_for a.source) a (fits a (fit a buffer e)))
 
-  -- a string of bytes is the packet that is built just if it has what was asked for, is plain and good, and its header field isn't FFFF
-  pub built-just : (p : List ℕ) → Bytes p → (p ≡ take n q) ↔ (Reads a p × Plain p × (judge_of p ≡ Good) × (four p ≡ true → word_at p header_field ≢ 65535))
-  built-just p b =
-      (λ s. let r = built-read a buffer e in rw s (r.0, r.1, (built-good a buffer e).0, its_own), λ x. built-only p b x.0 x.1 x.2 x.3)
+-- a string of bytes is the packet that is built just if it has what was asked for, is plain and good, and its header field isn't FFFF
+pub built-just : (a : Asked) (buffer : List ℕ) {n : ℕ} {q : List ℕ} → Builds a buffer n q
+    → (p : List ℕ) → Bytes p → (p ≡ take n q) ↔ (Reads a p × Plain p × (judge_of p ≡ Good) × (four p ≡ true → word_at p header_field ≢ 65535))
+built-just a buffer e p b = (
+  λ s. let r = built-read a buffer e in rw s (r.0, r.1, (built-good a buffer e).0, its_own a buffer e),
+  λ x. built-only a buffer e p b x.0 x.1 x.2 x.3,
+)
