@@ -1,6 +1,6 @@
-// What a host program in C calls: include/hifrostum.h has the same functions in C's words.
+// The calls of a host program, by C's types: include/hifrostum.h has the same functions in C's words, and `hifrostum_c` exports them.
 //
-// A slice is a pointer and a length. Any bytes may be lent, and every call ends and answers by the numbers of the
+// A slice is a pointer and a length there. Any bytes may be lent, and every call ends and answers by the numbers of the
 // rules paper. A refused call changes no lent byte, and sets to 0 what it hands back through count, fold and length,
 // but for a join, which hands back the left sum.
 #![tactic(auto)]
@@ -26,69 +26,56 @@ use fragments::Fragment;
 use sums::{Field, Fold, Partial};
 
 // The verdict on a packet.
-#[unsafe(no_mangle)]
-pub extern "C" fn hifrostum_judge(packet: &[u8]) -> u8
+pub fn hifrostum_judge(packet: &[u8]) -> u8
     ensures { result ≡ number_of (judge_of packet.now) }
 {
     judge::number(packet)
 }
 
 // The verdict on the fragments of one packet: those that a list describes in a buffer.
-#[unsafe(no_mangle)]
-pub extern "C" fn hifrostum_judge_fragments(buffer: &[u8], list: &[Fragment]) -> u8
+pub fn hifrostum_judge_fragments(buffer: &[u8], list: &[Fragment]) -> u8
     ensures { result ≡ number_of (fragments_of buffer.now list.now) }
 {
     verdicts::number(fragments::judge_fragments(buffer, list))
 }
 
 // Sets a packet's sum fields fresh.
-#[unsafe(no_mangle)]
-pub extern "C" fn hifrostum_mend(packet: &mut [u8]) -> u8
+pub fn hifrostum_mend(packet: &mut [u8]) -> u8
     ensures { (result, packet.new) ≡ numbered (mend_of packet.old) }
 {
     verdicts::number(mend::mend(packet))
 }
 
 // Lowers a packet's lifetime by one.
-#[unsafe(no_mangle)]
-pub extern "C" fn hifrostum_lower_lifetime(packet: &mut [u8]) -> u8
+pub fn hifrostum_lower_lifetime(packet: &mut [u8]) -> u8
     ensures { (result, packet.new) ≡ numbered (lifetime_of packet.old) }
 {
     verdicts::number(edit::lower_lifetime(packet))
 }
 
 // Sets the source (side 0) or the destination (side 1).
-#[unsafe(no_mangle)]
-pub extern "C" fn hifrostum_set_address(packet: &mut [u8], side: u32, address: &[u8]) -> u8
+pub fn hifrostum_set_address(packet: &mut [u8], side: u32, address: &[u8]) -> u8
     ensures { (result, packet.new) ≡ numbered (address_of packet.old side address.now) }
 {
     verdicts::number(edit::set_address(packet, side, address))
 }
 
 // Sets bytes of the body from a place on.
-#[unsafe(no_mangle)]
-pub extern "C" fn hifrostum_set_stretch(packet: &mut [u8], place: usize, bytes: &[u8]) -> u8
+pub fn hifrostum_set_stretch(packet: &mut [u8], place: usize, bytes: &[u8]) -> u8
     ensures { (result, packet.new) ≡ numbered (stretch_of packet.old place bytes.now) }
 {
     verdicts::number(edit::set_stretch(packet, place, bytes))
 }
 
 // Exchanges the prefix of the source (side 0) or of the destination (side 1).
-#[unsafe(no_mangle)]
-pub extern "C" fn hifrostum_exchange_prefix(
-    packet: &mut [u8],
-    side: u32,
-    expected: &[u8],
-    new: &[u8],
-) -> u8
+pub fn hifrostum_exchange_prefix(packet: &mut [u8], side: u32, expected: &[u8], new: &[u8]) -> u8
     ensures { (result, packet.new) ≡ numbered (prefix_of packet.old side expected.now new.now) }
 {
     verdicts::number(prefix::exchange_prefix(packet, side, expected, new))
 }
 
 // Builds a UDP packet in a buffer's first bytes.
-#[unsafe(no_mangle)]
-pub extern "C" fn hifrostum_build_udp(
+pub fn hifrostum_build_udp(
     source: &[u8],
     destination: &[u8],
     source_port: u16,
@@ -115,12 +102,7 @@ pub extern "C" fn hifrostum_build_udp(
 }
 
 // One verdict number for each record of a capture.
-#[unsafe(no_mangle)]
-pub extern "C" fn hifrostum_judge_capture(
-    capture: &[u8],
-    verdicts: &mut [u8],
-    count: &mut usize,
-) -> u8
+pub fn hifrostum_judge_capture(capture: &[u8], verdicts: &mut [u8], count: &mut usize) -> u8
     ensures { (result, (count.new, verdicts.new)) ≡ counted (judged_of capture.now verdicts.old) }
 {
     let judged = capture::judge_capture(capture, verdicts);
@@ -130,13 +112,7 @@ pub extern "C" fn hifrostum_judge_capture(
 }
 
 // The partial sum of a chain of pieces of a buffer.
-#[unsafe(no_mangle)]
-pub extern "C" fn hifrostum_sum_chain(
-    buffer: &[u8],
-    pieces: &[u32],
-    fold: &mut u16,
-    length: &mut u64,
-) -> u8
+pub fn hifrostum_sum_chain(buffer: &[u8], pieces: &[u32], fold: &mut u16, length: &mut u64) -> u8
     ensures { (result, (fold.new, length.new)) ≡ summed (chain_of buffer.now pieces.now) }
 {
     let chained = chain::chain(buffer, pieces);
@@ -147,8 +123,7 @@ pub extern "C" fn hifrostum_sum_chain(
 }
 
 // The partial sum of A's bytes followed by B's, or A's where the lengths together pass the 64-bit range.
-#[unsafe(no_mangle)]
-pub extern "C" fn hifrostum_join(
+pub fn hifrostum_join(
     fold_a: u16,
     length_a: u64,
     fold_b: u16,
@@ -174,8 +149,7 @@ pub extern "C" fn hifrostum_join(
 }
 
 // The field of a block.
-#[unsafe(no_mangle)]
-pub extern "C" fn hifrostum_field(bytes: &[u8]) -> u16
+pub fn hifrostum_field(bytes: &[u8]) -> u16
     ensures { result ≡ field_of (fold (total bytes.now)) }
 {
     let f = folds::fold_at(bytes, false);
@@ -184,8 +158,7 @@ pub extern "C" fn hifrostum_field(bytes: &[u8]) -> u16
 }
 
 // A field after the old bytes' fold gave way to the new bytes'.
-#[unsafe(no_mangle)]
-pub extern "C" fn hifrostum_update(field: u16, old_fold: u16, new_fold: u16) -> u16
+pub fn hifrostum_update(field: u16, old_fold: u16, new_fold: u16) -> u16
     ensures { result ≡ updated field old_fold new_fold }
 {
     let old = Fold(old_fold);

@@ -1,5 +1,5 @@
 -- The headers between said once more, in numbers and with no order of tests: which of them are passed, why one is refused, and what a
--- chain of them is. The walk's answer is what ends a chain of at most eight, and no other (`Walk-Ends`, `ends-walk`).
+-- chain of them is. The walk's answer is what ends a chain of at most eight, and no other (`walk_ends`, `ends-walk`).
 use Rattle.std.specs.Prelude.{ℕ, suc, ◌+◌, ◌<◌, ◌≤◌, ◌≡◌, ◌⊎◌, ◌≢◌, List}
 use Rattle.verdicts.specs.declared.Verdict.{Verdict}
 use Rattle.verdicts.specs.declared.Verdict.TheVariants.{Shape, Fragment, Uncovered}
