@@ -49,9 +49,9 @@ archive() {
     if [ -z "${HIFROSTUM_LIB_DIR:-}" ]; then
         file=$dir/libhifrostum.a
         if [ ! -f "$file" ] || [ ! -f "$dir/made-of" ] || [ "$(made_of "$file")" != "$(cat "$dir/made-of")" ]; then
-            (cd crates/hifrostum && rt lib) >&2
+            (cd crates/hifrostum_c && rt lib) >&2
             mkdir -p "$dir"
-            cp crates/hifrostum/out/libhifrostum.a "$file"
+            cp crates/hifrostum_c/out/libhifrostum_c.a "$file"
             made_of "$file" >"$dir/made-of"
         fi
     fi
