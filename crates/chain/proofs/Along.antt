@@ -1,12 +1,7 @@
 -- What the code of a chain goes by: the answers, and what the loop over the pieces keeps.
-use Prim.Native.Nat.{ℕ, ◌+◌, ◌≤◌, ◌<◌}
-use mathlib.Core.Path.{◌≡◌, sym, ap, ap₂, ◌∙◌}
-use mathlib.Core.Bool.{true, false, not}
-use mathlib.Core.List.{List, ◌++◌}
-use native.Mathlib.Omega.{arith}
-use lib.ListN.{length, get_or, take, drop, drop_of_length-le, length-append}
-use borrow.Author.Tests.{eqb-true, le-ltb, lt-ltb, ltb-true, ltb-false, not-true, not-false}
-use Rattle.verdicts.specs.declared.Verdict.TheVariants.{Good, Place}
+use Rattle.std.proofs.Common.{◌≡◌, ℕ, ◌+◌, ◌≤◌, ◌<◌, true, false, not, List, ◌++◌, length, get_or, take, drop, sym, ap, ap₂, ◌∙◌, arith, drop_of_length-le, length-append, eqb-true, le-ltb, lt-ltb, ltb-true, ltb-false, Ok, Err}
+use borrow.Author.Tests.{not-true, not-false}
+use Rattle.verdicts.specs.declared.Verdict.TheVariants.{Place}
 use Rattle.verdicts.proofs.Tests.{by_cases, and-true}
 use Rattle.sums.specs.Partials.{partial_of, nothing, joined, longest, too_long}
 use Rattle.sums.specs.declared.Partial.{Partial}
@@ -20,15 +15,15 @@ use Rattle.chain.proofs.Lists.{fits-end, fits-piece, pieced-length}
 -- ---- the answers
 module _ (buffer pieces : List ℕ) where
   pub chain-good : fits (length buffer) pieces ≡ true → length (pieced buffer pieces) ≤ longest
-      → chain_of buffer pieces ≡ record { verdict = Good; sum = partial_of (pieced buffer pieces) }
+      → chain_of buffer pieces ≡ Ok (partial_of (pieced buffer pieces))
   unfolding chain_of
   chain-good e h = rw (e, le-ltb longest (length (pieced buffer pieces)) h)
 
-  pub chain-place : fits (length buffer) pieces ≡ false → chain_of buffer pieces ≡ record { verdict = Place; sum = nothing }
+  pub chain-place : fits (length buffer) pieces ≡ false → chain_of buffer pieces ≡ Err Place
   unfolding chain_of
   chain-place e = rw e
 
-  pub chain-long : fits (length buffer) pieces ≡ true → longest < length (pieced buffer pieces) → chain_of buffer pieces ≡ record { verdict = Place; sum = nothing }
+  pub chain-long : fits (length buffer) pieces ≡ true → longest < length (pieced buffer pieces) → chain_of buffer pieces ≡ Err Place
   unfolding chain_of
   chain-long e h = rw (e, lt-ltb longest (length (pieced buffer pieces)) h)
 
@@ -39,10 +34,10 @@ module _ (buffer pieces : List ℕ) where
       let b = and-true (fits (length buffer) pieces) (not (too_long (sizes pieces))) e in
       (b.0, omega (arith, pieced-length buffer pieces b.0, ltb-false longest (sizes pieces) (not-true _ b.1)))
 
-  pub chain-done : taken (length buffer) pieces ≡ true → chain_of buffer pieces ≡ record { verdict = Good; sum = partial_of (pieced buffer pieces) }
+  pub chain-done : taken (length buffer) pieces ≡ true → chain_of buffer pieces ≡ Ok (partial_of (pieced buffer pieces))
   chain-done e = let t = chain-taken e in chain-good t.0 t.1
 
-  pub chain-refused : taken (length buffer) pieces ≡ false → chain_of buffer pieces ≡ record { verdict = Place; sum = nothing }
+  pub chain-refused : taken (length buffer) pieces ≡ false → chain_of buffer pieces ≡ Err Place
   unfolding taken
   chain-refused e =
       by_cases (fits (length buffer) pieces)

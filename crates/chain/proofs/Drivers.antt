@@ -1,16 +1,7 @@
 -- A driver that joins a piece only where its own sum ends has at any time the sum of the buffer's first bytes.
-use Rattle.std.specs.Prelude.{if◌then◌else◌}
-use Prim.Native.Nat.{ℕ, ◌+◌, ◌≤◌}
-use mathlib.Core.Path.{◌≡◌, sym, ap, ◌∙◌}
-use mathlib.Core.List.{List, [], ◌∷◌, ◌++◌}
-use mathlib.Core.Bool.{true}
-use native.Mathlib.Nat.{add-zero, zero-add}
-use native.Mathlib.Omega.{arith}
-use lib.ListN.{length, take, drop, length-take, length-drop}
-use lib.Seq.{take-add}
-use borrow.Author.Tests.{eqb-true, eq-eqb}
+use Rattle.std.proofs.Common.{◌≡◌, ℕ, ◌+◌, ◌≤◌, if◌then◌else◌, true, List, [], ◌∷◌, ◌++◌, length, take, drop, sym, ap, ◌∙◌, add-zero, zero-add, arith, length-take, length-drop, take-add, eqb-true, eq-eqb}
 use Rattle.verdicts.proofs.Tests.{by_cases}
-use Rattle.sums.specs.Partials.{partial_of, nothing, joined, longest, join_of}
+use Rattle.sums.specs.Partials.{partial_of, nothing, joined, longest, join_of, handed_back}
 use Rattle.sums.specs.declared.Partial.{Partial}
 use Rattle.sums.proofs.Joins.{join-strings, join-good, empty-partial}
 use Rattle.chain.specs.Sizes.{sizes}
@@ -26,14 +17,14 @@ module _ (buffer : List ℕ) (short : length buffer ≤ longest) where
   piece-length : (p : Piece) → p.0 + p.1 ≤ length buffer → length (take p.1 (drop p.0 buffer)) ≡ p.1
   piece-length p h = omega (arith, length-take p.1 (drop p.0 buffer), length-drop p.0 buffer)
 
-  first-joined : (s : Partial) (p : Piece) → First s → p.0 + p.1 ≤ length buffer → in_place s p ≡ true → First (join_of s (piece_of buffer p)).sum
+  first-joined : (s : Partial) (p : Piece) → First s → p.0 + p.1 ≤ length buffer → in_place s p ≡ true → First (handed_back (join_of s (piece_of buffer p)))
   unfolding in_place
   first-joined s p f h t =
       let piece = take p.1 (drop p.0 buffer) in
       let w = f.within in
       let e = eqb-true s.length p.0 t in
       let size = piece-length p h in
-      rw (ap (λ q. q.sum) (join-good s (partial_of piece) (omega arith)))
+      rw (ap handed_back (join-good s (partial_of piece) (omega arith)))
       (record {
         within = omega arith;
         is =
@@ -49,7 +40,7 @@ module _ (buffer : List ℕ) (short : length buffer ≤ longest) where
   driven-first s [] f h = f
   driven-first s (p ∷ ps) f h =
       by_cases (in_place s p)
-      (λ t. rw t (driven-first (join_of s (piece_of buffer p)).sum ps (first-joined s p f h.0 t) h.1))
+      (λ t. rw t (driven-first (handed_back (join_of s (piece_of buffer p))) ps (first-joined s p f h.0 t) h.1))
       (λ t. rw t (driven-first s ps f h.1))
 
   -- whatever pieces come, and in whatever order: its sum is that of as many bytes as its length says
@@ -65,11 +56,11 @@ module _ (buffer : List ℕ) (short : length buffer ≤ longest) where
   InOrder at (p ∷ ps) = (at ≡ p.0) × InOrder (at + p.1) ps
 
   next-joined : (s : Partial) (p : Piece) → p.0 + p.1 ≤ length buffer → s.length ≡ p.0
-      → (if in_place s p then (join_of s (piece_of buffer p)).sum else s) ≡ joined s (piece_of buffer p)
+      → (if in_place s p then handed_back (join_of s (piece_of buffer p)) else s) ≡ joined s (piece_of buffer p)
   unfolding in_place
   next-joined s p h e =
       let size = piece-length p h in
-      rw (eq-eqb s.length p.0 e) (ap (λ q. q.sum) (join-good s (piece_of buffer p) (omega arith)))
+      rw (eq-eqb s.length p.0 e) (ap handed_back (join-good s (piece_of buffer p) (omega arith)))
 
   driven-length : (s : Partial) (ps : List Piece) → Inside (length buffer) ps → InOrder s.length ps → (driven buffer s ps).length ≡ s.length + length_of ps
   unfolding driven numbers_of sizes

@@ -1,17 +1,21 @@
 -- Laws of lists of pieces: which fit, and what the loop that tests one keeps.
-use Prim.Native.Nat.{ℕ, ◌+◌, ◌≤◌, ◌<◌}
-use mathlib.Core.Path.{◌≡◌, refl, sym, ap, ◌∙◌}
-use mathlib.Core.Bool.{true, false, and-true as and_yes, and-false}
-use mathlib.Core.List.{List, [], ◌∷◌}
-use native.Mathlib.Omega.{arith}
-use lib.ListN.{length, get_or, take, drop, drop_of_length-le, length-append, length-take, length-drop}
-use lib.Dec.{leb, eqb}
-use borrow.Author.Tests.{le-leb, lt-leb, leb-true, eqb-true, eqb-false, le-ltb, lt-ltb}
+use Rattle.std.proofs.Common.{◌≡◌, ℕ, ◌+◌, ◌*◌, ◌/◌, ◌≤◌, ◌<◌, true, false, leb, eqb, List, [], ◌∷◌, length, get_or, take, drop, refl, sym, ap, ◌∙◌, arith, drop_of_length-le, length-append, length-take, length-drop, le-leb, leb-true, eqb-true, le-ltb, lt-ltb, eq-eqb, ne_eqb, ◌%◌}
+use Rattle.std.specs.Simd.{first_chunks}
+use mathlib.Core.Bool.{and-true as and_yes, and-false}
+use borrow.Author.Tests.{lt-leb, eqb-false}
 use Rattle.verdicts.proofs.Tests.{by_cases, and-true}
 use Rattle.sums.specs.Partials.{longest}
-use Rattle.sums.proofs.Rests.{one_more, two-more}
+use Rattle.std.proofs.lemmas.List.{drop_more}
+use Rattle.sums.proofs.Rests.{two-more, chunk-at}
 use Rattle.chain.specs.Chain.{fits, pieced}
 use Rattle.chain.specs.Sizes.{sizes, taken}
+
+-- the j-th piece of a list: its offset and its length
+pub piece-at : (xs : List ℕ) (cs : List (List ℕ)) (j : ℕ) → cs ≡ first_chunks 2 (length xs / 2) xs → j < length xs / 2
+    → (get_or (get_or cs j []) 0 0 ≡ get_or xs (2 * j) 0) × (get_or (get_or cs j []) 1 0 ≡ get_or xs (2 * j + 1) 0)
+piece-at xs cs j e h =
+    let p = ap (λ ys. get_or ys j []) e ∙ chunk-at 2 (length xs / 2) j xs h ∙ ap (take 2) (two-more xs (2 * j) (omega arith)) in
+    (ap (λ q. get_or q 0 0) p, ap (λ q. get_or q 1 0) p)
 
 -- ---- the test of a list, piece by piece
 module _ (end : ℕ) (xs : List ℕ) (i : ℕ) where
@@ -29,7 +33,7 @@ module _ (end : ℕ) (xs : List ℕ) (i : ℕ) where
       by_cases (eqb i (length xs))
       (λ e. let n : length xs ≤ i = omega (arith, eqb-true i (length xs) e) in rw (drop_of_length-le xs n) (sym e))
       (λ e. let n : ¬ (i ≡ length xs) = eqb-false i (length xs) e in
-      rw (one_more xs i (i + 1) (omega arith) refl, drop_of_length-le xs k) (sym e))
+      rw (drop_more xs i 0 (omega arith), drop_of_length-le xs k) (sym e))
 
   pub fits-piece : i + 1 < length xs → fits end (drop i xs) ≡ true → (get_or xs i 0 + get_or xs (i + 1) 0 ≤ end) × (fits end (drop (i + 2) xs) ≡ true)
   unfolding fits
@@ -76,11 +80,20 @@ module _ {end : ℕ} {xs : List ℕ} {room i : ℕ} (l : Tested end xs room i) w
     tested-long k =
         rw (lt-ltb longest (sizes xs) (omega (arith, l.rest-room, sizes-next xs i h))) (sym (and-false (fits end xs)))
 
-  pub tested-end : length xs ≤ i + 1 → eqb i (length xs) ≡ taken end xs
+  pub tested-end : i % 2 ≡ 0 → length xs ≤ i + 1 → eqb (length xs % 2) 0 ≡ taken end xs
   unfolding taken
-  tested-end h =
+  tested-end p h =
       rw (le-ltb longest (sizes xs) (omega (arith, l.rest-room, sizes-few (drop i xs) (omega (arith, length-drop i xs)))))
-      (sym (fits-end end xs i l.within h) ∙ l.rest-fits ∙ sym (and_yes (fits end xs)))
+      (even ∙ sym (fits-end end xs i l.within h) ∙ l.rest-fits ∙ sym (and_yes (fits end xs)))
+    where
+      w : i ≤ length xs
+      w = l.within
+
+      even : eqb (length xs % 2) 0 ≡ eqb i (length xs)
+      even =
+          by_cases (eqb i (length xs))
+          (λ e. let n = eqb-true i (length xs) e in eq-eqb (length xs % 2) 0 (omega (arith, w)) ∙ sym e)
+          (λ e. let n : ¬ (i ≡ length xs) = eqb-false i (length xs) e in ne_eqb (length xs % 2) 0 (λ z. omega (arith, w)) ∙ sym e)
 
 -- ---- of a list that fits, the lengths together are the joined length
 pub pieced-length : (buffer xs : List ℕ) → fits (length buffer) xs ≡ true → length (pieced buffer xs) ≡ sizes xs

@@ -4,12 +4,12 @@
 #![tactic(auto)]
 
 ghost use Rattle.std.specs.Prelude.{◌≡◌, ◌+◌, ◌≤◌};
-ghost use Rattle.sums.specs.Total.{odd, weigh};
+ghost use Rattle.sums.specs.Total.{weigh};
 ghost use Rattle.sums.specs.Fold.{fold, field_of};
 ghost use Rattle.sums.specs.Partials.{partial_of, joined, join_of, longest, swap_if};
 ghost use Rattle.sums.specs.Update.{updated};
 
-use sums::{Field, Fold, Joined, Partial};
+use sums::{Field, Fold, Partial, Unjoined};
 use verdicts::Verdict;
 
 // The fold of a total.
@@ -34,7 +34,7 @@ pub fn field_of(f: Fold) -> Field
 pub fn update(field: Field, old: Fold, new: Fold) -> Field
     ensures { result.0 ≡ updated field.0 old.0 new.0 }
 {
-    let t = field.0 as u32 + old.0 as u32 + (65535 - new.0) as u32;
+    let t = u32::from(field.0) + u32::from(old.0) + u32::from(65535 - new.0);
     Field((t % 65535) as u16)
 }
 
@@ -42,23 +42,20 @@ pub fn update(field: Field, old: Fold, new: Fold) -> Field
 pub fn add(a: Fold, b: Fold) -> Fold
     ensures { result.0 ≡ fold (a.0 + b.0) }
 {
-    fold_of(a.0 as u64 + b.0 as u64)
+    fold_of(u64::from(a.0) + u64::from(b.0))
 }
 
 // The partial sum of A's bytes followed by B's, or place and A's where the lengths together pass the 64-bit range.
-pub fn join(a: Partial, b: Partial) -> Joined
+pub fn join(a: Partial, b: Partial) -> Result<Partial, Unjoined>
     ensures { result ≡ join_of a b }
 {
     if u64::MAX - a.length < b.length {
-        return Joined {
+        return Err(Unjoined {
             verdict: Verdict::Place,
-            sum: a,
-        };
+            left: a,
+        });
     }
-    Joined {
-        verdict: Verdict::Good,
-        sum: join_within(a, b),
-    }
+    Ok(join_within(a, b))
 }
 
 // The same for sister crates, where the lengths are known to stay within the range.
@@ -66,7 +63,7 @@ pub fn join_within(a: Partial, b: Partial) -> Partial
     requires { a.length + b.length ≤ longest }
     ensures { result ≡ joined a b }
 {
-    let second = Fold(aligned(is_odd(a.length), b.fold.0));
+    let second = aligned(a.length % 2 == 1, b.fold);
     Partial {
         fold: add(a.fold, second),
         length: a.length + b.length,
@@ -88,19 +85,12 @@ pub fn sum(bytes: &[u8]) -> Partial
 pub fn fold_at(bytes: &[u8], odd: bool) -> Fold
     ensures { result.0 ≡ fold (weigh odd bytes.now) }
 {
-    let f = fold_of(sums::total(bytes, 0));
-    Fold(aligned(!odd, f.0))
+    aligned(!odd, fold_of(sums::total(bytes, 0)))
 }
 
 // A fold, with its two bytes exchanged if what it is added to is odd.
-fn aligned(odd: bool, f: u16) -> u16
-    ensures { result ≡ swap_if odd f }
+fn aligned(odd: bool, f: Fold) -> Fold
+    ensures { result.0 ≡ swap_if odd f.0 }
 {
-    if odd { f % 256 * 256 + f / 256 } else { f }
-}
-
-fn is_odd(n: u64) -> bool
-    ensures { result ≡ odd n }
-{
-    n % 2 == 1
+    if odd { Fold(f.0.swap_bytes()) } else { f }
 }

@@ -10,7 +10,7 @@ mod low;
 ghost use Rattle.std.specs.Prelude.{◌≡◌, ◌+◌, ◌%◌, ◌<◌};
 ghost use Rattle.sums.specs.Fold.{passes};
 
-pub use low::{add32, carry, le2, le4, le8, total};
+pub use low::{add, carry, le2, le4, le8, total};
 use verdicts::Verdict;
 
 #[derive(Clone, Copy)]
@@ -26,18 +26,18 @@ pub struct Partial {
     pub length: u64,
 }
 
-// The verdict on joined sums, good or place, and the sum beside it.
+// Sums that can't be joined: the verdict, and the left sum.
 #[derive(Clone, Copy)]
-pub struct Joined {
+pub struct Unjoined {
     pub verdict: Verdict,
-    pub sum: Partial,
+    pub left: Partial,
 }
 
 // The field, low byte first, of a total that isn't 0: minus the total, modulo 65535.
-pub fn field_low(t: u64) -> u64
+pub fn field_low(t: u64) -> u16
     ensures { (result < 65535) × ((result + t) % 65535 ≡ 0) }
 {
-    (u64::MAX - t) % 65535
+    ((u64::MAX - t) % 65535) as u16
 }
 
 // Whether a block with its field in place, whose total is t, passes. A fold is a total too, and so is a total that
@@ -45,5 +45,5 @@ pub fn field_low(t: u64) -> u64
 pub fn passes(t: u64) -> bool
     ensures { result ≡ passes t }
 {
-    std::num::wrapping_sub_u64(t, 1) % 65535 == 65534
+    t.wrapping_sub(1) % 65535 == 65534
 }

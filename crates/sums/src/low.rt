@@ -3,7 +3,8 @@
 // A total may be off by any multiple of 65535, but never from or to 0, so its fold is right: a carry out of 64 bits
 // is added in again, and a number of eight bytes stands for its four words. To read low byte first exchanges the
 // two bytes of a fold (RFC 1071, 2 B), so nothing is exchanged on the way.
-ghost use Rattle.std.specs.Prelude.{◌≡◌, ◌+◌, ◌-◌, ◌%◌, ◌<◌, ◌≤◌, true, length};
+ghost use Rattle.std.specs.Prelude.{◌≡◌, ◌+◌, ◌-◌, ◌*◌, ◌%◌, ◌<◌, ◌≤◌, true, false, length};
+ghost use Rattle.std.specs.Int.{from_bool};
 ghost use Rattle.sums.specs.Total.{weigh};
 ghost use Rattle.sums.specs.Fold.{fold};
 ghost use Rattle.sums.specs.Low.{two_at, four_at, eight_at, rest_at, Room};
@@ -14,175 +15,131 @@ pub fn total(b: &[u8], seed: u64) -> u64
     ensures { fold result ≡ fold (seed + weigh true b.now) }
 {
     if b.len() < 8 {
-        return last1(b, last2(b, last4(b, seed)));
+        return short(b, seed);
     }
     let n = b.len() - 1;
-    let mut t = seed;
-    if n >= 128 {
-        t = turns(b, n - n % 128, seed);
-    }
-    ending(
-        b,
-        n,
-        last8(b, n, last16(b, n, last32(b, n, last64(b, n, t)))),
-    )
+    let t = if n < 128 {
+        seed
+    } else {
+        turns(&b[..n - n % 128], seed)
+    };
+    let t = last::<64>(b, n, t);
+    let t = last::<32>(b, n, t);
+    let t = last::<16>(b, n, t);
+    ending(b, n, last::<8>(b, n, t))
 }
 
 // a + b with the carry added in again: an add and an adc.
 pub fn carry(a: u64, b: u64) -> u64
     ensures { fold result ≡ fold (a + b) }
 {
-    let n = std::num::wrapping_add_u64(a, b);
-    if n < b {
-        return n + 1;
-    }
-    n
+    let n = a.wrapping_add(b);
+    n + u64::from(n < b)
 }
 
 // The numbers of two, four and eight bytes at i.
-pub fn le2(s: &[u8], i: usize) -> u64
+// kept: three functions, since each is one call of its own type's method, and a trait over the types would be longer.
+pub fn le2(s: &[u8], i: usize) -> u16
     requires { i + 1 < length s.now }
-    ensures { (result ≡ two_at s.now i) × (result ≤ 65535) }
+    ensures { result ≡ two_at s.now i }
 {
-    wide(s[i]) + 256 * wide(s[i + 1])
+    u16::from_le_bytes([s[i], s[i + 1]])
 }
 
-pub fn le4(s: &[u8], i: usize) -> u64
+pub fn le4(s: &[u8], i: usize) -> u32
     requires { i + 3 < length s.now }
-    ensures { (result ≡ four_at s.now i) × (result ≤ 4294967295) }
+    ensures { result ≡ four_at s.now i }
 {
-    le2(s, i) + 65536 * le2(s, i + 2)
+    u32::from_le_bytes([s[i], s[i + 1], s[i + 2], s[i + 3]])
 }
 
 pub fn le8(s: &[u8], i: usize) -> u64
     requires { i + 7 < length s.now }
     ensures { result ≡ eight_at s.now i }
 {
-    le4(s, i) + 4294967296 * le4(s, i + 4)
+    u64::from_le_bytes([
+        s[i],
+        s[i + 1],
+        s[i + 2],
+        s[i + 3],
+        s[i + 4],
+        s[i + 5],
+        s[i + 6],
+        s[i + 7],
+    ])
 }
 
-fn wide(x: u8) -> u64
-    ensures { (result ≡ x) × (result ≤ 255) }
-{
-    x as u64
-}
-
-// A total, and a carry out of it that is still to be added.
+// A total, and a carry out of it that is still to be added: there is room for it.
 #[derive(Clone, Copy)]
 struct Carried {
     n: u64,
-    c: u64,
+    c: bool,
+    ghost room: { Room n (from_bool c) },
 }
 
-// A full adder. LLVM makes one adc of it where the next one takes what it leaves, so a chain of them costs one
-// instruction for eight bytes; that takes both tests, joined by |.
-fn step(s: Carried, v: u64) -> Carried
-    requires { Room s.n s.c }
-    ensures { Room result.n result.c × (fold (result.n + result.c) ≡ fold (s.n + s.c + v)) }
-{
-    let n = std::num::wrapping_add_u64(s.n, v);
-    let m = std::num::wrapping_add_u64(n, s.c);
-    if (n < v) | (m < n) {
-        return Carried { n: m, c: 1 };
+impl Carried {
+    fn new(n: u64) -> Carried
+        ensures { (result.n ≡ n) × (result.c ≡ false) }
+    {
+        Carried { n, c: false }
     }
-    Carried { n: m, c: 0 }
+
+    // A full adder. LLVM makes one adc of it where the next one takes what it leaves, so a chain of them costs one
+    // instruction for eight bytes; that takes both tests, joined by |.
+    // kept: `carrying_add` promises the same, but LLVM makes no adc of it: 1470 instructions for 290 at 1500 bytes.
+    fn step(self, v: u64) -> Carried
+        ensures { fold (result.n + from_bool result.c) ≡ fold (self.n + from_bool self.c + v) }
+    {
+        let n = self.n.wrapping_add(v);
+        let m = n.wrapping_add(u64::from(self.c));
+        Carried {
+            n: m,
+            c: (n < v) | (m < n),
+        }
+    }
+
+    fn total(self) -> u64
+        ensures { result ≡ self.n + from_bool self.c }
+    {
+        self.n + u64::from(self.c)
+    }
 }
 
-// Chains over the 16 and 32 bytes at i.
-fn two(b: &[u8], i: usize, s: Carried) -> Carried
-    requires { (i + 15 < length b.now) × Room s.n s.c }
-    ensures { Room result.n result.c × (fold (result.n + result.c + rest_at b.now (i + 16)) ≡ fold (s.n + s.c + rest_at b.now i)) }
+// The N bytes at i, added to a total: a chain, and then its carry.
+pub fn add<const N: usize>(b: &[u8], i: usize, t: u64) -> u64
+    requires { (i + N ≤ length b.now) × (N % 8 ≡ 0) }
+    ensures { fold (result + rest_at b.now (i + N)) ≡ fold (t + rest_at b.now i) }
 {
-    step(step(s, le8(b, i)), le8(b, i + 8))
+    let mut s = Carried::new(t);
+    for word in b[i..i + N].as_chunks::<8>().0 {
+        s = s.step(u64::from_le_bytes(*word));
+    }
+    s.total()
 }
 
-fn four(b: &[u8], i: usize, s: Carried) -> Carried
-    requires { (i + 31 < length b.now) × Room s.n s.c }
-    ensures { Room result.n result.c × (fold (result.n + result.c + rest_at b.now (i + 32)) ≡ fold (s.n + s.c + rest_at b.now i)) }
-{
-    two(b, i + 16, two(b, i, s))
-}
-
-// The 16, 32 and 64 bytes at i, added to a total: a chain, and then its carry, which fits.
-fn add16(b: &[u8], i: usize, t: u64) -> u64
-    requires { i + 15 < length b.now }
-    ensures { fold (result + rest_at b.now (i + 16)) ≡ fold (t + rest_at b.now i) }
-{
-    let s = two(b, i, Carried { n: t, c: 0 });
-    s.n + s.c
-}
-
-pub fn add32(b: &[u8], i: usize, t: u64) -> u64
-    requires { i + 31 < length b.now }
-    ensures { fold (result + rest_at b.now (i + 32)) ≡ fold (t + rest_at b.now i) }
-{
-    let s = four(b, i, Carried { n: t, c: 0 });
-    s.n + s.c
-}
-
-fn add64(b: &[u8], i: usize, t: u64) -> u64
-    requires { i + 63 < length b.now }
-    ensures { fold (result + rest_at b.now (i + 64)) ≡ fold (t + rest_at b.now i) }
-{
-    let s = four(b, i + 32, four(b, i, Carried { n: t, c: 0 }));
-    s.n + s.c
-}
-
-// The total of the bytes up to end, added to a seed. Two chains a turn, which don't wait for each other's carries.
-fn turns(b: &[u8], end: usize, seed: u64) -> u64
-    requires { (end ≤ length b.now) × (end % 128 ≡ 0) }
-    ensures { fold (result + rest_at b.now end) ≡ fold (seed + weigh true b.now) }
+// The total of whole turns, added to a seed. Two chains a turn, which don't wait for each other's carries.
+fn turns(b: &[u8], seed: u64) -> u64
+    requires { length b.now % 128 ≡ 0 }
+    ensures { fold result ≡ fold (seed + weigh true b.now) }
 {
     let mut t = seed;
-    let mut u: u64 = 0;
-    let mut i: usize = 0;
-    while i < end {
-        t = add64(b, i, t);
-        u = add64(b, i + 64, u);
-        i += 128;
+    let mut u = 0;
+    for turn in b.as_chunks::<128>().0 {
+        t = add::<64>(turn, 0, t);
+        u = add::<64>(turn, 64, u);
     }
     carry(t, u)
 }
 
-// The 64, 32, 16 and 8 bytes that stand where the larger powers of 2 in n end.
-fn last64(b: &[u8], n: usize, t: u64) -> u64
-    requires { n < length b.now }
-    ensures { fold (result + rest_at b.now (n - n % 64)) ≡ fold (t + rest_at b.now (n - n % 128)) }
+// The N bytes, a power of 2, that stand where the larger powers of 2 in n end.
+fn last<const N: usize>(b: &[u8], n: usize, t: u64) -> u64
+    requires { (n < length b.now) × (N % 8 ≡ 0) × (0 < N) × (N ≤ 64) }
+    ensures { fold (result + rest_at b.now (n - n % N)) ≡ fold (t + rest_at b.now (n - n % (2 * N))) }
 {
-    if n % 128 < 64 {
+    if n % (2 * N) < N {
         return t;
     }
-    add64(b, n - n % 128, t)
-}
-
-fn last32(b: &[u8], n: usize, t: u64) -> u64
-    requires { n < length b.now }
-    ensures { fold (result + rest_at b.now (n - n % 32)) ≡ fold (t + rest_at b.now (n - n % 64)) }
-{
-    if n % 64 < 32 {
-        return t;
-    }
-    add32(b, n - n % 64, t)
-}
-
-fn last16(b: &[u8], n: usize, t: u64) -> u64
-    requires { n < length b.now }
-    ensures { fold (result + rest_at b.now (n - n % 16)) ≡ fold (t + rest_at b.now (n - n % 32)) }
-{
-    if n % 32 < 16 {
-        return t;
-    }
-    add16(b, n - n % 32, t)
-}
-
-fn last8(b: &[u8], n: usize, t: u64) -> u64
-    requires { n < length b.now }
-    ensures { fold (result + rest_at b.now (n - n % 8)) ≡ fold (t + rest_at b.now (n - n % 16)) }
-{
-    if n % 16 < 8 {
-        return t;
-    }
-    carry(t, le8(b, n - n % 16))
+    add::<N>(b, n - n % (2 * N), t)
 }
 
 // The last 1 to 8 bytes: the number of the last eight, from which those that were added before are shifted out.
@@ -193,30 +150,16 @@ fn ending(b: &[u8], n: usize, t: u64) -> u64
     carry(t, le8(b, n - 7) >> (8 * (7 - n % 8)))
 }
 
-// The last 4, 2 and 1 bytes of fewer than eight, where the length has them.
-fn last4(b: &[u8], t: u64) -> u64
-    ensures { fold (result + rest_at b.now (length b.now - length b.now % 4)) ≡ fold (t + rest_at b.now (length b.now - length b.now % 8)) }
+// The total of a few bytes, added to a seed: two at a turn.
+fn short(b: &[u8], seed: u64) -> u64
+    ensures { fold result ≡ fold (seed + weigh true b.now) }
 {
-    if b.len() % 8 < 4 {
-        return t;
+    let mut t = seed;
+    for word in b.as_chunks::<2>().0 {
+        t = carry(t, u64::from(u16::from_le_bytes(*word)));
     }
-    carry(t, le4(b, b.len() - b.len() % 8))
-}
-
-fn last2(b: &[u8], t: u64) -> u64
-    ensures { fold (result + rest_at b.now (length b.now - length b.now % 2)) ≡ fold (t + rest_at b.now (length b.now - length b.now % 4)) }
-{
-    if b.len() % 4 < 2 {
-        return t;
-    }
-    carry(t, le2(b, b.len() - b.len() % 4))
-}
-
-fn last1(b: &[u8], t: u64) -> u64
-    ensures { fold result ≡ fold (t + rest_at b.now (length b.now - length b.now % 2)) }
-{
     if b.len() % 2 == 0 {
         return t;
     }
-    carry(t, wide(b[b.len() - 1]))
+    carry(t, u64::from(b[b.len() - 1]))
 }

@@ -1,5 +1,5 @@
 -- `folds::fold_of` meets its contract.
-use native.Mathlib.Omega.{arith}
+use Rattle.std.proofs.Common.{arith}
 use Rattle.sums.proofs.Folds.{fold-as}
 use Rattle.folds.proofs.fold_of.Goals as goal
 

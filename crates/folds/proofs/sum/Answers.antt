@@ -1,5 +1,5 @@
 -- `folds::sum` meets its contract.
-use mathlib.Core.Path.{refl}
+use Rattle.std.proofs.Common.{refl}
 use Rattle.sums.proofs.Joins.{partial-path}
 use Rattle.folds.proofs.sum.Goals as goal
 

@@ -1,7 +1,7 @@
 -- `folds::update` meets its contract: it is a remainder.
-use borrow.Author.Rules.{rules}
+use Rattle.std.proofs.Common.{arith}
 use Rattle.sums.proofs.Updates.{update-as}
 use Rattle.folds.proofs.update.Goals as goal
 
 pub returns : goal.returns
-returns c = update-as _ _ _ (search rules) (search rules) (search rules)
+returns c = rw (c.from.ensures, c.from-2.ensures, c.from-3.ensures) (update-as _ _ _ (omega arith) (omega arith) (omega arith))

@@ -4,4 +4,4 @@ use Rattle.sums.proofs.Passing.{passes-less}
 use Rattle.sums.proofs.passes.Goals as goal
 
 pub returns : goal.returns
-returns c = passes-less _ _ (omega arith) c.wrapping_sub_u64.ensures.value
+returns c = passes-less _ _ (omega arith) (omega arith)

@@ -1,8 +1,8 @@
 -- The number is its definition.
 use Rattle.std.proofs.Common.{rules}
-use Rattle.sums.specs.Low.{eight_at}
+use Rattle.sums.specs.Low.{two_at, four_at, eight_at}
 use Rattle.sums.proofs.low.le8.Goals as goal
 
 pub returns : goal.returns
-unfolding eight_at
+unfolding two_at four_at eight_at
 returns c = search rules

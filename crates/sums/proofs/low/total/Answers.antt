@@ -1,22 +1,19 @@
 -- Each part leaves what the next begins with; in the end nothing is left.
-use Rattle.std.proofs.Common.{◌-◌, ◌%◌, length, ◌∙◌, arith}
-use Rattle.sums.proofs.Rests.{more-none}
+use Rattle.std.proofs.Common.{◌-◌, ◌%◌, length, ap, ◌∙◌, arith}
+use Rattle.sums.specs.Fold.{fold}
+use Rattle.sums.proofs.Folds.{fold-add}
+use Rattle.sums.proofs.Rests.{rest-part, more-none}
 use Rattle.sums.proofs.low.total.Goals as goal
-use Rattle.sums.proofs.low.total.Goals.{then-n-ge128, else-n-ge128}
-
-pub returns-then-b-lt8 : goal.returns-then-b-lt8
-returns-then-b-lt8 c =
-    let s = c.args in
-    let xs = s.b.now in
-    c.last1.ensures ∙ c.last2.ensures ∙ c.last4.ensures ∙ more-none xs s.seed (length xs - length xs % 8) 0 (omega arith)
+use Rattle.sums.proofs.low.total.Goals.{then-n-lt128, else-n-lt128}
 
 pub returns : goal.returns
 returns c =
     let s = c.args in
     let xs = s.b.now in
     let n = length xs - 1 in
-    c.ending.ensures ∙ c.last8.ensures ∙ c.last16.ensures ∙ c.last32.ensures ∙ c.last64.ensures
-    ∙ elim c.if-n-ge128.branch [
-      | then-n-ge128 w ↦ rw w.t-is w.turns-t.ensures
-      | else-n-ge128 w ↦ rw w.t-is (more-none xs s.seed (n - n % 128) 0 (omega arith))
+    let m = n - n % 128 in
+    c.ending.ensures ∙ c.last.ensures ∙ c.last-t-3.ensures ∙ c.last-t-2.ensures ∙ c.last-t.ensures
+    ∙ elim c.if-n-lt128.branch [
+      | then-n-lt128 w ↦ rw w.t-is (more-none xs s.seed m 0 (omega arith))
+      | else-n-lt128 w ↦ rw w.t-is (fold-add _ _ _ w.turns-t.ensures ∙ ap fold (omega (arith, rest-part xs 0 m m (omega arith) (omega arith) (omega arith))))
     ]

@@ -1,27 +1,20 @@
--- The loop keeps the fold of both totals and what is left.
-use Rattle.std.proofs.Common.{◌+◌, true, ap, ◌∙◌, add-zero, arith}
-use Rattle.sums.specs.Total.{weigh}
-use Rattle.sums.specs.Fold.{fold}
-use Rattle.sums.proofs.Folds.{fold-add}
-use Rattle.sums.proofs.Rests.{more-none, rest_more}
+-- Each turn takes the next 128 bytes out of what is left; in the end nothing is left.
+use Rattle.std.proofs.Common.{◌+◌, ◌*◌, ◌/◌, ◌≡◌, length, ◌∙◌, arith}
+use Rattle.sums.proofs.Rests.{chunk-at, rest-turn, more-none, more-end}
 use Rattle.sums.proofs.low.turns.Goals as goal
 
-pub loop-i-init : goal.loop-i-init
-loop-i-init c = let s = c.args in (ap (λ n. fold (n + weigh true s.b.now)) (add-zero s.seed), omega arith, omega arith)
-
-pub loop-i-preserved : goal.loop-i-preserved
-loop-i-preserved c =
-    let l = c.loop-i in
-    let b = c.args.b.now in (
-      rest_more b _ l.t l.u _ _ l.i c.add64-t.ensures
-          (more-none b _ (l.i + 128) (l.i + 64 + 64) (omega arith) ∙ c.add64-u.ensures) l.invariant.0,
-      omega arith,
-      omega arith,
-    )
+pub loop-turn-preserved : goal.loop-turn-preserved
+loop-turn-preserved c =
+    let l = c.loop-turn in
+    let xs = c.args.b.now in
+    let j = l.turn-index in
+    let e = c.as_chunks.ensures in
+    let k : length c.as_chunks.result.0.now ≡ length xs / 128 = e.front_len in
+    more-none xs _ (128 * (j + 1)) (128 * j + 128) (omega arith)
+    ∙ rest-turn xs _ c.args.seed l.t l.u _ _ (128 * j) (rw e.front (chunk-at 128 (length xs / 128) j xs (omega arith))) (omega arith) c.add-t.ensures c.add-u.ensures l.invariant
 
 pub returns : goal.returns
 returns c =
-    let l = c.loop-i in
-    let s = c.args in
-    let b = s.b.now in
-    fold-add _ (l.t + l.u) _ c.carry.ensures ∙ more-none b (l.t + l.u) s.end l.i (omega arith) ∙ l.invariant.0
+    let l = c.loop-turn in
+    let k : length c.as_chunks.result.0.now ≡ length c.args.b.now / 128 = c.as_chunks.ensures.front_len in
+    c.carry.ensures ∙ more-end c.args.b.now _ (128 * l.turn-index) (omega arith) ∙ l.invariant
