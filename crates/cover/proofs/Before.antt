@@ -1,6 +1,6 @@
 -- What stands before the message in the covered block: an even number of bytes, and its total.
-use mathlib.Core.Path.{◌≡◌, refl, sym, ap, ap₂, ◌∙◌}
-use Prim.Native.Nat.{ℕ, ◌+◌, ◌*◌, ◌-◌}
+use mathlib.Core.Path.{◌≡◌, refl, sym, ap, ◌∙◌}
+use Prim.Native.Nat.{ℕ, ◌+◌, ◌*◌}
 use native.Mathlib.Nat.{zero-add}
 use native.Mathlib.Omega.{arith}
 use mathlib.Core.List.{List}
@@ -16,7 +16,7 @@ use Rattle.sums.proofs.Rests.{more-eight, more-end}
 use Rattle.wire.specs.Bytes.{part}
 use Rattle.wire.specs.Outer.{four, family_of, addresses_at, addresses_length}
 use Rattle.wire.specs.Messages.{plan_in, rest_in, before_in}
-use Rattle.wire.specs.Inner.{protocol_of, start_of, end_of, length_of, message_bytes, pseudo, addresses_of, before_of, covered_of}
+use Rattle.wire.specs.Inner.{protocol_of, length_of, message_bytes, pseudo, addresses_of, before_of, covered_of}
 use Rattle.wire.specs.declared.Family.{Family}
 use Rattle.wire.specs.declared.Family.TheVariants.{Four, Six}
 use Rattle.wire.proofs.Parts.{part_length}
@@ -70,13 +70,12 @@ module _ (p : List ℕ) where
         simp t (weigh-even false (addresses_of p) behind (addresses-even p p k.outer refl) ∙ ap (λ n. total (addresses_of p) + n) (rest-total (family_of p) (protocol_of p) (length_of p))) in
         e ∙ fold-sum rest rest a (256 * total (addresses_of p)) refl (ea ∙ low-times (addresses_of p)) ∙ ap fold (omega arith)
 
-    -- and its own added to the message's: the covered block's
-    pub message-low : (s e b r : ℕ) → s ≡ start_of p → e ≡ end_of p → fold b ≡ fold (256 * total (before_of p)) → fold r ≡ fold (b + weigh true (part p s (e - s)))
+    -- and its own added to the message's, as that is lent: the covered block's
+    pub message-low : {m : List ℕ} (b r : ℕ) → m ≡ message_bytes p → fold b ≡ fold (256 * total (before_of p)) → fold r ≡ fold (b + weigh true m)
         → fold r ≡ fold (256 * message_total p)
     unfolding message_total
-    message-low s e b r es ee eb er =
+    message-low b r em eb er =
         let w : total (covered_of p) ≡ total (before_of p) + total (message_bytes p) =
         ap total (covered-at (same_self p) k)
         ∙ weigh-even false (before_of p) (message_bytes p) (before-even (family_of p) (protocol_of p) (addresses_of p) (length_of p) (addresses-even p p k.outer refl)) in
-        er ∙ ap₂ (λ s e. fold (b + weigh true (part p s (e - s)))) es ee
-        ∙ fold-sum b (256 * total (before_of p)) (weigh true (message_bytes p)) (256 * total (message_bytes p)) eb (low-times (message_bytes p)) ∙ ap fold (omega arith)
+        er ∙ ap (λ m. fold (b + weigh true m)) em ∙ fold-sum b (256 * total (before_of p)) (weigh true (message_bytes p)) (256 * total (message_bytes p)) eb (low-times (message_bytes p)) ∙ ap fold (omega arith)

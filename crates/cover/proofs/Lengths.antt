@@ -1,10 +1,5 @@
 -- How long a covered block is at most, and that joining the sums of its parts is never refused.
-use mathlib.Core.Path.{◌≡◌, ap}
-use Prim.Native.Nat.{ℕ, ◌+◌, ◌≤◌}
-use native.Mathlib.Omega.{arith}
-use mathlib.Core.List.{List, ◌++◌}
-use lib.ListN.{length, length-append}
-use Rattle.verdicts.specs.declared.Verdict.TheVariants.{Good}
+use Rattle.std.proofs.Common.{◌≡◌, ℕ, ◌+◌, ◌≤◌, List, ◌++◌, length, ap, arith, length-append, Ok}
 use Rattle.verdicts.proofs.Tests.{by_cases}
 use Rattle.sums.specs.Partials.{partial_of, join_of}
 use Rattle.sums.proofs.Joins.{join-string}
@@ -40,11 +35,11 @@ before-short family n addresses size =
 -- or without, as judge and mender add them up
 module _ (p : List ℕ) (bytes : Bytes p) where
   pub header-joins : OuterFacts p → (a b : List ℕ) → length (a ++ b) ≤ length (header_bytes p)
-      → join_of (partial_of a) (partial_of b) ≡ record { verdict = Good; sum = partial_of (a ++ b) }
+      → join_of (partial_of a) (partial_of b) ≡ Ok (partial_of (a ++ b))
   header-joins k a b h = join-string a b (omega (arith, declared-small p bytes, part_length p 0 (header_end p) (omega arith)))
 
   pub message-joins : Facts p → (a b : List ℕ) → length (a ++ b) ≤ length (covered_of p)
-      → join_of (partial_of a) (partial_of b) ≡ record { verdict = Good; sum = partial_of (a ++ b) }
+      → join_of (partial_of a) (partial_of b) ≡ Ok (partial_of (a ++ b))
   message-joins k a b h =
       join-string a b
       (omega (

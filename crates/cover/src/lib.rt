@@ -8,10 +8,10 @@ ghost use Rattle.std.specs.Prelude.{◌≡◌, ◌+◌, ◌*◌, ◌-◌, ◌%�
 ghost use Rattle.sums.specs.Total.{total};
 ghost use Rattle.sums.specs.Fold.{fold};
 ghost use Rattle.sums.specs.Low.{rest_at};
-ghost use Rattle.wire.specs.Inner.{before_of, Holds};
+ghost use Rattle.wire.specs.Inner.{before_of};
 
 use sums::{carry, le4, le8};
-use wire::{Family, Message};
+use wire::{Family, Packet};
 
 // The total of an IPv4 header: 20 bytes, then its options.
 pub fn header_total(header: &[u8]) -> u64
@@ -19,7 +19,7 @@ pub fn header_total(header: &[u8]) -> u64
     ensures { fold result ≡ fold (256 * total header.now) }
 {
     let first = carry(le8(header, 0), le8(header, 8));
-    fours(header, 20, carry(first, le4(header, 16)))
+    fours(header, 20, carry(first, le4(header, 16) as u64))
 }
 
 // The total of some bytes from a place on, added to a seed: four at a turn, as options are few.
@@ -28,29 +28,27 @@ pub fn fours(b: &[u8], from: usize, seed: u64) -> u64
     ensures { fold result ≡ fold (seed + rest_at b.now from) }
 {
     let mut t = seed;
-    let mut i = from;
-    while i < b.len() {
-        t = carry(t, le4(b, i));
-        i += 4;
+    for word in b[from..].as_chunks::<4>().0 {
+        t = carry(t, u64::from(u32::from_le_bytes(*word)));
     }
     t
 }
 
 // The total of a message's pseudo-header, or of nothing where it has none: the seed for that of the message.
-pub fn pseudo_total(packet: &[u8], m: Message) -> u64
-    requires { Holds packet.now m }
+pub fn pseudo_total(packet: &Packet) -> u64
     ensures { fold result ≡ fold (256 * total (before_of packet.now)) }
 {
+    let bytes = packet.bytes();
+    let m = packet.message();
     if !m.pseudo {
         return 0;
     }
     let rest = ((m.end - m.start) as u64 + m.protocol as u64) * 256;
-    let family = m.family;
-    match family {
+    match m.family {
         Family::Four => carry(
             rest,
-            le8(&packet[wire::ADDRESSES_4..wire::ADDRESSES_4_END], 0),
+            le8(&bytes[wire::ADDRESSES_4..wire::ADDRESSES_4_END], 0),
         ),
-        Family::Six => sums::add32(&packet[wire::ADDRESSES_6..wire::ADDRESSES_6_END], 0, rest),
+        Family::Six => sums::add::<32>(&bytes[wire::ADDRESSES_6..wire::ADDRESSES_6_END], 0, rest),
     }
 }

@@ -1,4 +1,5 @@
 -- The field that mender and edits write, and the body that stretches stand in, are where the RFCs put them.
+use Rattle.std.specs.Prelude.{Option, None}
 use mathlib.Core.Path.{◌≡◌, refl, sym, ap, ◌∙◌}
 use mathlib.Core.Logic.{◌⊎◌, inl, inr}
 use Prim.Native.Nat.{ℕ, ◌+◌, ◌-◌}
@@ -12,8 +13,7 @@ use Rattle.wire.specs.Outer.{four, version_of, declared_end, outer_rules}
 use Rattle.wire.specs.Table.{plan_of}
 use Rattle.wire.specs.Messages.{shape_rules}
 use Rattle.wire.specs.Inner.{protocol_of, start_of, row_in, tcp, udp, field_at, body_of, pseudo, message_rules, whole_rules}
-use Rattle.wire.specs.declared.Row.{Row}
-use Rattle.wire.specs.declared.Row.TheVariants.{Uncovered}
+use Rattle.wire.specs.declared.Plan.{Plan}
 use Rattle.wire.proofs.Facts.{Facts, facts}
 use Rattle.judge.specs.Rfc.{ihl, upper_length, datagram_length, Stands, tcp_header, Fields4, FieldsAt, Fields6, FieldsByRfc}
 use Rattle.judge.proofs.Accepts.{Shaped, shaped}
@@ -29,17 +29,17 @@ module _ (p : List ℕ) (s : Shaped p) where
   module _ {v n fixed place : ℕ} {summed : Bool} (first : ℕ) (start : start_of p ≡ first) (l : Line p v n (plan fixed place summed)) where
     field : field_at p ≡ first + place
     unfolding field_at
-    field = ap (λ (r : Row). start_of p + (plan_of r).field) l.row ∙ ap (λ x. x + place) start
+    field = ap (λ (r : Option Plan). start_of p + (plan_of r).field) l.row ∙ ap (λ x. x + place) start
 
     before : pseudo p ≡ summed
     unfolding pseudo
-    before = ap (λ (r : Row). (plan_of r).pseudo) l.row
+    before = ap (λ (r : Option Plan). (plan_of r).pseudo) l.row
 
     body : (n ≡ 6 → ⊥) → body_of p ≡ first + fixed
     unfolding body_of
     body o =
         let t : tcp p ≡ false = ne_eqb (protocol_of p) 6 (λ e. o (sym l.protocol ∙ e)) in
-        simp t (ap (λ (r : Row). start_of p + (plan_of r).fixed) l.row ∙ ap (λ x. x + fixed) start)
+        simp t (ap (λ (r : Option Plan). start_of p + (plan_of r).fixed) l.row ∙ ap (λ x. x + fixed) start)
 
     module _ (size : ℕ) where
       -- ICMP and ICMPv6, TCP, UDP
@@ -77,7 +77,7 @@ module _ (p : List ℕ) (s : Shaped p) where
   declared-at6 v = let k = known in let s = k.outer.six (not4 v) in omega (arith, declared6 p (not4 v))
 
   -- a line that covers nothing is none of a packet whose shape nothing refuses
-  uncovered-not : row_in p ≡ Uncovered → ⊥
+  uncovered-not : row_in p ≡ None → ⊥
   unfolding message_rules shape_rules
   uncovered-not e = true≢false (rw e at s.inner.0)
 

@@ -1,4 +1,5 @@
 -- The table's lines, taken apart by family and protocol.
+use Rattle.std.specs.Prelude.{Option, None, Some}
 use mathlib.Core.Path.{◌≡◌, refl}
 use mathlib.Core.Logic.{◌⊎◌, ◌≢◌, inl, inr, ⊎_elim}
 use Prim.Native.Nat.{ℕ}
@@ -11,28 +12,27 @@ use Rattle.verdicts.proofs.Tests.{by_cases}
 use Rattle.wire.specs.Outer.{four, six, version_of, family_of}
 use Rattle.wire.specs.Table.{row_of, uncovered}
 use Rattle.wire.specs.Inner.{protocol_of, row_in}
-use Rattle.wire.specs.declared.Row.{Row}
-use Rattle.wire.specs.declared.Row.TheVariants.{Uncovered, Covered}
+use Rattle.wire.specs.declared.Plan.{Plan}
 use Rattle.judge.specs.Cases.{Listed}
 
 -- the row of p's version and protocol, with what stands in it
-pub record Line (p : List ℕ) (v n : ℕ) (r : Row) : Type 0 where
+pub record Line (p : List ℕ) (v n : ℕ) (r : Option Plan) : Type 0 where
   pub version : version_of p ≡ v
   pub protocol : protocol_of p ≡ n
   pub row : row_in p ≡ r
 
-abbrev pub plan : ℕ → ℕ → Bool → Row
-plan fixed field pseudo = Covered (record { fixed = fixed; field = field; pseudo = pseudo })
+abbrev pub plan : ℕ → ℕ → Bool → Option Plan
+plan fixed field pseudo = Some (record { fixed = fixed; field = field; pseudo = pseudo })
 
 pub data Kind (p : List ℕ) : Type 0 where
   icmp : Line p 4 1 (plan 8 2 false) → Kind p
   tcp4 : Line p 4 6 (plan 20 16 true) → Kind p
   udp4 : Line p 4 17 (plan 8 6 true) → Kind p
-  none4 : Line p 4 (protocol_of p) Uncovered → protocol_of p ≢ 1 → protocol_of p ≢ 6 → protocol_of p ≢ 17 → Kind p
+  none4 : Line p 4 (protocol_of p) None → protocol_of p ≢ 1 → protocol_of p ≢ 6 → protocol_of p ≢ 17 → Kind p
   tcp6 : Line p 6 6 (plan 20 16 true) → Kind p
   udp6 : Line p 6 17 (plan 8 6 true) → Kind p
   icmp6 : Line p 6 58 (plan 4 2 true) → Kind p
-  none6 : Line p 6 (protocol_of p) Uncovered → protocol_of p ≢ 6 → protocol_of p ≢ 17 → protocol_of p ≢ 58 → Kind p
+  none6 : Line p 6 (protocol_of p) None → protocol_of p ≢ 6 → protocol_of p ≢ 17 → protocol_of p ≢ 58 → Kind p
 
 module _ (p : List ℕ) where
   kind4 : version_of p ≡ 4 → Kind p

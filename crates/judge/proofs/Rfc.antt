@@ -1,4 +1,5 @@
 -- Good and unsummed are what the RFCs say, for packets of bytes.
+use Rattle.std.specs.Prelude.{Option}
 use mathlib.Core.Path.{◌≡◌, refl, sym, ap, ◌∙◌}
 use mathlib.Core.Logic.{◌↔◌, ◌⊎◌, ◌≢◌, inl, inr, ⊎_elim}
 use Prim.Native.Nat.{ℕ, ◌+◌, ◌-◌, ◌≤◌}
@@ -14,7 +15,7 @@ use Rattle.wire.specs.Outer.{four, family_of, version_of, outer_rules}
 use Rattle.wire.specs.Table.{plan_of, row_of}
 use Rattle.wire.specs.Messages.{shape_rules}
 use Rattle.wire.specs.Inner.{protocol_of, start_of, length_of, pseudo, field_at, silent_of, udp, row_in, message_rules, covered_of}
-use Rattle.wire.specs.declared.Row.{Row}
+use Rattle.wire.specs.declared.Plan.{Plan}
 use Rattle.wire.proofs.Facts.{Facts, facts}
 use Rattle.wire.proofs.Same.{same_self, silent-at}
 use Rattle.cover.specs.Sums.{message_sums}
@@ -76,7 +77,7 @@ module _ (p : List ℕ) (b : Bytes p) (s : Shaped p) where
 
   icmp-plain : four p ≡ true → protocol_of p ≡ 1 → pseudo p ≡ false
   unfolding pseudo row_of family_of
-  icmp-plain f n = let row : row_in p ≡ plan 8 2 false = simp (f, n) in ap (λ (r : Row). (plan_of r).pseudo) row
+  icmp-plain f n = let row : row_in p ≡ plan 8 2 false = simp (f, n) in ap (λ (r : Option Plan). (plan_of r).pseudo) row
 
   right4 : version_of p ≡ 4 → Right4 p ↔ Tests p
   right4 v =

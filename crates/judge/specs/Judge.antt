@@ -1,11 +1,12 @@
 -- The judge: the first rule that applies, in the paper's order.
-use Rattle.std.specs.Prelude.{ℕ, List, [], ◌∷◌, ◌++◌, Bool, not, ◌&&◌}
-use Rattle.verdicts.specs.Rules.{Rule, ◌⇒◌, verdict_by}
+use Rattle.std.specs.Prelude.{ℕ, List, [], ◌∷◌, ◌++◌, Bool, not, ◌&&◌, Result, Ok, Err}
+use Rattle.verdicts.specs.Rules.{Rule, ◌⇒◌, first, verdict_by}
 use Rattle.verdicts.specs.declared.Verdict.{Verdict}
 use Rattle.verdicts.specs.declared.Verdict.TheVariants.{Unsummed, HeaderSum, Missing, MessageSum}
 use Rattle.wire.specs.Outer.{four, outer_rules}
 use Rattle.wire.specs.Walk.{walk_rules}
-use Rattle.wire.specs.Inner.{silent_of, message_rules}
+use Rattle.wire.specs.Inner.{silent_of, message_of, message_rules}
+use Rattle.wire.specs.declared.Message.{Message}
 use Rattle.cover.specs.Sums.{header_sums, message_sums}
 
 abbrev pub header_sum_rule : List ℕ → List Rule
@@ -30,6 +31,10 @@ judge_rules p = outer_rules p ++ (header_sum_rule p ++ (walk_rules p ++ (message
 
 unfoldable pub judge_of : List ℕ → Verdict
 judge_of p = verdict_by (judge_rules p)
+
+-- the message that is to be summed, or the first refusal of the rules before it
+unfoldable pub to_sum_of : List ℕ → Result Message Verdict
+to_sum_of p = first (outer_rules p ++ (header_sum_rule p ++ (walk_rules p ++ message_rules p))) Err (Ok (message_of p))
 
 -- the verdict on the message of a packet that no earlier rule refuses
 unfoldable pub message_verdict : List ℕ → Verdict

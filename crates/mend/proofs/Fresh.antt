@@ -1,27 +1,31 @@
 -- Fields that stand fresh: their sums are right, and what keeps them so.
 use mathlib.Core.Path.{◌≡◌, refl, sym, ap, ap₂, ◌∙◌}
 use mathlib.Core.Logic.{inr}
-use Prim.Native.Nat.{ℕ, ◌+◌, ◌/◌, ◌%◌}
+use Prim.Native.Nat.{ℕ, ◌+◌, ◌-◌, ◌*◌, ◌/◌, ◌%◌, ◌≤◌}
 use native.Mathlib.Omega.{arith}
 use mathlib.Core.List.{List, [], ◌∷◌}
-use mathlib.Core.Bool.{true, false, not, ◌&&◌}
+use mathlib.Core.Bool.{Bool, true, false, not, ◌&&◌}
 use borrow.Author.Tests.{not-true}
 use Rattle.verdicts.specs.Rules.{IsClear}
 use Rattle.verdicts.proofs.Tests.{by_cases, and-true}
-use Rattle.sums.specs.Fold.{fold, field_of}
-use Rattle.wire.specs.Bytes.{word_at, put_word}
+use Rattle.sums.specs.Total.{weigh, total}
+use Rattle.sums.specs.Fold.{fold, field_of, swap}
+use Rattle.sums.specs.Low.{two_at}
+use Rattle.wire.specs.Bytes.{byte_at, word_at, put_word}
 use Rattle.wire.specs.Outer.{four, header_field}
-use Rattle.wire.specs.Inner.{field_at, silent_of, udp, whole_rules, carries}
+use Rattle.wire.specs.Inner.{message_bytes, field_at, silent_of, udp, before_of, whole_rules, carries, Holds}
+use Rattle.wire.specs.declared.Message.{Message}
 use Rattle.wire.proofs.Facts.{OuterFacts, Facts}
 use Rattle.wire.proofs.Writes.{Wrote, put-wrote}
 use Rattle.wire.proofs.Same.{SameHeader, Same, same_layout, field-same, four_same, same_self, same_step, silent-at, soft-header, soft-message, udp-same}
-use Rattle.wire.proofs.Held.{carries-clear, clear-carries, carries_same, whole-facts}
+use Rattle.wire.proofs.Held.{carries-clear, clear-carries, carries_same, whole-facts, known}
 use Rattle.cover.specs.Sums.{header_total, message_total, header_sums, message_sums}
+use Rattle.cover.proofs.Before.{message-low}
 use Rattle.cover.proofs.Blocks.{header-word, message-field}
 use Rattle.judge.proofs.Answers.{sums4, sums6}
 use Rattle.mend.specs.Mend.{mended_header}
 use Rattle.mend.specs.Fresh.{sent, fresh_header, fresh_message, Sum, header, message, placed, used, Fresh}
-use Rattle.mend.proofs.Numbers.{sent-passes}
+use Rattle.mend.proofs.Numbers.{sent-passes, less-field}
 
 -- what holds of both fields
 pub each : (P : Sum → Type 0) → P header → P message → (s : Sum) → P s
@@ -39,6 +43,12 @@ module _ (p : List ℕ) (u : used message p ≡ true) where
 
   pub used-sums : (silent_of p && four p) ≡ false
   used-sums = not-true (silent_of p && four p) (and-true (carries p) (not (silent_of p && four p)) u).1
+
+-- ---- the message's field, as it is worked out
+-- what is sent for the total without the field
+pub fresh-is : (p : List ℕ) (u : Bool) → udp p ≡ u → (w : ℕ) → w ≡ sent u (field_of (fold (message_total (put_word p (field_at p) 0)))) → swap w ≡ w → swap w ≡ fresh_message p
+unfolding fresh_message
+fresh-is p u e w h s = s ∙ h ∙ ap (λ u. sent u (field_of (fold (message_total (put_word p (field_at p) 0))))) (sym e)
 
 -- ---- a word written over a field; a field read as 0000
 -- the header's
@@ -120,3 +130,16 @@ module _ {p q r : List ℕ} (k : Facts p) (a : Same p q) (b : Same p r) where
 pub mended-same : {p : List ℕ} → OuterFacts p → Same p (mended_header p)
 unfolding mended_header
 mended-same {p} k = by_cases (four p) (λ f. simp f (same_h k (same_self p) (fresh_header p))) (λ f. simp f (same_self p))
+
+-- the total of a message at hand less its field
+pub held-rest : {p q s : List ℕ} {m : Message} → Holds p m → (f b t r : ℕ) → q ≡ p → f ≡ two_at q m.field → f ≤ 65535
+    → s ≡ message_bytes p → fold b ≡ fold (256 * total (before_of p)) → fold t ≡ fold (b + weigh true s) → fold r ≡ fold (t + (65535 - f))
+    → r % 65535 ≡ (256 * message_total (put_word p (field_at p) 0)) % 65535
+unfolding two_at
+held-rest {p} {q} {s} {m} h f b t r eq ef sf es eb et er =
+    let k = known h in
+    let i = field_at p in
+    let w : f ≡ two_at p i = ef ∙ ap₂ two_at eq k.field in
+    let low : 256 * word_at p i ≡ f + 65535 * byte_at p i = omega (arith, w) in
+    less-field _ (word_at p i) (byte_at p i) t f r
+    (message-low p k.facts b t es eb et ∙ ap (λ (n : ℕ). fold (256 * n)) (sym (aside_f k.facts (same_self p)))) low sf er

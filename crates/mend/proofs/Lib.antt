@@ -7,3 +7,4 @@ pub mod Mending
 pub mod Unread
 pub mod Unseen
 pub mod Examples
+pub mod Outcomes

@@ -16,32 +16,21 @@ ghost use Rattle.mend.specs.Mend.{mended_header, mended_message, mend_of};
 
 use sums::{carry, le2, le8};
 use verdicts::Verdict;
-use wire::{Family, Frame, Message, Part, Walked};
+use wire::{Family, Message, Packet};
 
 // Sets the IPv4 header's field and the message's. Refuses a packet whose shape is wrong and leaves it as it was.
+#[tactic(auto, using(crate::proofs::Outcomes::mend_refused, crate::proofs::Outcomes::mend_done))]
 pub fn mend(packet: &mut [u8]) -> Verdict
     ensures { (result, packet.new) ≡ mend_of packet.old }
 {
-    let frame = wire::outer(packet);
-    match frame {
-        Frame::Refused(v) => v,
-        Frame::Ip(h) => {
-            let walked = wire::walk(packet, h);
-            match walked {
-                Walked::Refused(v) => v,
-                Walked::Reached(c) => {
-                    let part = wire::inner(packet, c);
-                    match part {
-                        Part::Refused(v) => v,
-                        Part::Whole(m) => mend_whole(packet, m),
-                    }
-                }
-            }
-        }
+    match wire::whole(packet) {
+        Err(v) => v,
+        Ok(m) => mend_whole(packet, m),
     }
 }
 
 // Sets both fields. One call behind all the tests: LLVM takes in no second one there.
+// kept: the writers take bytes and message side by side, since in a type with `Holds` each write would have to show it anew
 fn mend_whole(packet: &mut [u8], m: Message) -> Verdict
     requires { Holds packet.old m }
     ensures { (result ≡ Verdict.Good) × (packet.new ≡ mended_message (mended_header packet.old)) }
@@ -52,14 +41,14 @@ fn mend_whole(packet: &mut [u8], m: Message) -> Verdict
 }
 
 // Sets the IPv4 header's field.
+#[inline(always)]
 pub fn mend_header(packet: &mut [u8], m: Message)
     requires { Holds packet.old m }
     ensures { packet.new ≡ mended_header packet.old }
 {
-    let family = m.family;
-    match family {
+    match m.family {
         Family::Four => {
-            let fresh = fresh_header(packet, m);
+            let fresh = fresh_header(&Packet::new(packet, m));
             writes::put_low(packet, wire::HEADER_FIELD, fresh);
         }
         Family::Six => {}
@@ -67,38 +56,39 @@ pub fn mend_header(packet: &mut [u8], m: Message)
 }
 
 // Sets the message's field, but for a UDP field of 0000 over IPv4.
+#[inline(always)]
 fn mend_message(packet: &mut [u8], m: Message)
     requires { Holds packet.old m }
     ensures { packet.new ≡ mended_message packet.old }
 {
-    if kept(packet, m) {
+    let held = Packet::new(packet, m);
+    if kept(&held) {
         return;
     }
-    let fresh = fresh_message(packet, m);
+    let fresh = fresh_message(&held);
     writes::put_low(packet, m.field, fresh);
 }
 
 // Whether a message's field stays: UDP's 0000 over IPv4.
-fn kept(packet: &[u8], m: Message) -> bool
-    requires { Holds packet.now m }
+#[inline(always)]
+fn kept(packet: &Packet) -> bool
     ensures { result ≡ (silent_of packet.now && four packet.now) }
 {
-    let family = m.family;
-    match family {
-        Family::Four => wire::silent(packet, m),
+    match packet.message().family {
+        Family::Four => packet.silent(),
         Family::Six => false,
     }
 }
 
 // The header's field, from what stands around it. That is never 0, as the version isn't.
-fn fresh_header(packet: &[u8], m: Message) -> u64
-    requires holds { Holds packet.now m }
-    requires is_four { four packet.now ≡ true }
-    ensures { (result ≤ 65535) × (swap result ≡ fresh_header packet.now) }
+fn fresh_header(packet: &Packet) -> u16
+    requires { four packet.now ≡ true }
+    ensures { swap result ≡ fresh_header packet.now }
 {
-    let end = m.start;
-    let before = before_field(&packet[..wire::HEADER_FIELD]);
-    sums::field_low(after_field(&packet[wire::ADDRESSES_4..end], before))
+    let bytes = packet.bytes();
+    let m = packet.message();
+    let before = before_field(&bytes[..wire::HEADER_FIELD]);
+    sums::field_low(after_field(&bytes[wire::ADDRESSES_4..m.start], before))
 }
 
 // The total of the ten bytes before a header's field.
@@ -106,7 +96,7 @@ fn before_field(b: &[u8]) -> u64
     requires { length b.now ≡ 10 }
     ensures { fold result ≡ fold (weigh true b.now) }
 {
-    carry(le8(b, 0), le2(b, 8))
+    carry(le8(b, 0), le2(b, 8) as u64)
 }
 
 // That of the bytes behind it, added to a seed: the addresses, then the options.
@@ -118,46 +108,42 @@ fn after_field(b: &[u8], seed: u64) -> u64
 }
 
 // The message's field: the block is summed whole, and the field taken out again by adding its complement.
-fn fresh_message(packet: &[u8], m: Message) -> u64
-    requires { Holds packet.now m }
-    ensures { (result ≤ 65535) × (swap result ≡ fresh_message packet.now) }
+#[inline(always)]
+fn fresh_message(packet: &Packet) -> u16
+    ensures { swap result ≡ fresh_message packet.now }
 {
-    let start = m.start;
-    let end = m.end;
-    let field = le2(packet, m.field);
-    let before = cover::pseudo_total(packet, m);
-    let t = carry(sums::total(&packet[start..end], before), 65535 - field);
-    let fresh = sums::field_low(t);
+    let m = packet.message();
+    let field = le2(packet.bytes(), m.field);
+    let before = cover::pseudo_total(packet);
+    let whole = sums::total(packet.block(), before);
+    let fresh = sums::field_low(carry(whole, (65535 - field) as u64));
     if fresh != 0 {
         return fresh;
     }
-    zero_field(packet, m)
+    zero_field(packet)
 }
 
 // The field where 65535 divides the rest of the block: 0000, but FFFF for UDP and where the rest is zeros alone.
-fn zero_field(packet: &[u8], m: Message) -> u64
-    requires holds { Holds packet.now m }
-    requires multiple { message_total (put_word packet.now (field_at packet.now) 0) % 65535 ≡ 0 }
-    ensures { (result ≤ 65535) × (swap result ≡ fresh_message packet.now) }
+fn zero_field(packet: &Packet) -> u16
+    requires { message_total (put_word packet.now (field_at packet.now) 0) % 65535 ≡ 0 }
+    ensures { swap result ≡ fresh_message packet.now }
 {
+    let m = packet.message();
     if m.protocol == wire::UDP {
         return 65535;
     }
     if m.pseudo {
         return 0;
     }
-    if blank(packet, m) { 65535 } else { 0 }
+    if blank(packet) { 65535 } else { 0 }
 }
 
 // Whether a message is zeros alone, its field aside.
-fn blank(packet: &[u8], m: Message) -> bool
-    requires { Holds packet.now m }
+fn blank(packet: &Packet) -> bool
     ensures { result ≡ eqb (total (part (put_word packet.now (field_at packet.now) 0) (start_of packet.now) (length_of packet.now))) 0 }
 {
-    let start = m.start;
-    let field = m.field;
-    let after = field + 2;
-    let stop = m.end;
-    let before = sums::total(&packet[start..field], 0);
-    sums::total(&packet[after..stop], before) == 0
+    let bytes = packet.bytes();
+    let m = packet.message();
+    let before = sums::total(&bytes[m.start..m.field], 0);
+    sums::total(&bytes[m.field + 2..m.end], before) == 0
 }

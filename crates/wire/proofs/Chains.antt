@@ -1,4 +1,5 @@
 -- The walk and the chains of headers: the answer is what ends a chain of at most eight, and no other.
+use Rattle.std.specs.Prelude.{Result, Ok, Err}
 use mathlib.Core.Path.{◌≡◌, refl, ◌∙◌}
 use mathlib.Core.Logic.{◌≢◌}
 use Prim.Native.Nat.{ℕ, zero, suc, ◌+◌, ◌*◌, ◌<◌, ◌≤◌}
@@ -12,7 +13,7 @@ use Rattle.wire.specs.Walk.{Way, refused, reached, size_at, met_of, going, walk_
 use Rattle.wire.specs.Chain.{Passed, Refusal, Chain, here, over, Closes, refuses, arrives, Ends}
 use Rattle.wire.specs.Chain as chain
 use Rattle.wire.specs.declared.way.Met.{Met}
-use Rattle.wire.specs.declared.way.Met.TheVariants.{Refused, Header, Message}
+use Rattle.wire.specs.declared.way.Met.TheVariants.{Header, Message}
 use Rattle.wire.proofs.Meeting.{Sorted, refusal-met, passed-met, sorted}
 use Rattle.wire.proofs.Meeting as meeting
 
@@ -28,23 +29,23 @@ module _ (p : List ℕ) (end : ℕ) where
   walk-by zero n at = refl
   walk-by (suc left) n at = refl
 
-  pub at-refusal : (left n at : ℕ) (v : Verdict) → Refused v ≡ met_of p end left n at → walk_by left p end n at ≡ refused v
+  pub at-refusal : (left n at : ℕ) (v : Verdict) → Err v ≡ met_of p end left n at → walk_by left p end n at ≡ refused v
   at-refusal left n at v e = rw (walk-by left n at, ← e)
 
-  pub at-message : (left n at : ℕ) → Message ≡ met_of p end left n at → walk_by left p end n at ≡ reached n at
+  pub at-message : (left n at : ℕ) → Ok Message ≡ met_of p end left n at → walk_by left p end n at ≡ reached n at
   at-message left n at e = rw (walk-by left n at, ← e)
 
-  pub at-header : (left n at : ℕ) → Header ≡ met_of p end (suc left) n at → walk_by (suc left) p end n at ≡ walk_by left p end (byte_at p at) (at + size_at p at)
+  pub at-header : (left n at : ℕ) → Ok Header ≡ met_of p end (suc left) n at → walk_by (suc left) p end n at ≡ walk_by left p end (byte_at p at) (at + size_at p at)
   at-header left n at e = rw (walk-by (suc left) n at, ← e)
 
   -- ---- from the walk to its chain
-  closing : (left n at : ℕ) {m : Met} → Sorted p end left n at m → m ≡ met_of p end left n at
+  closing : (left n at : ℕ) {m : Result Met Verdict} → Sorted p end left n at m → m ≡ met_of p end left n at
       → (left ≢ 0 → Passed p end n at → Ends p end left n at (walk_by left p end n at)) → Ends p end left n at (walk_by left p end n at)
   closing left n at (meeting.refuses {v} r) e on =
       record { count = 0; rest = left; few = omega arith; k = n; place = at; chain = here; closes = rw (at-refusal left n at v e) (refuses r) }
   closing left n at (meeting.arrives o) e on =
       record { count = 0; rest = left; few = omega arith; k = n; place = at; chain = here; closes = rw (at-message left n at e) (arrives o) }
-  closing left n at (meeting.passes z q) e on = on z q
+  closing left n at (meeting.passed-on z q) e on = on z q
 
   longer : {left n at : ℕ} {answer : Way} → Passed p end n at → Ends p end left (byte_at p at) (at + size_at p at) answer → Ends p end (suc left) n at answer
   longer q e = record { count = suc e.count; rest = e.rest; few = omega (arith, e.few); k = e.k; place = e.place; chain = over q e.chain; closes = e.closes }

@@ -1,5 +1,6 @@
 -- What stands at a place where n is the next header: the message, a header that is refused, or one that is passed, and `met_of` says which.
-use mathlib.Core.Path.{◌≡◌, refl}
+use Rattle.std.specs.Prelude.{Result, Ok, Err}
+use mathlib.Core.Path.{◌≡◌, refl, sym, ◌∙◌}
 use mathlib.Core.Logic.{◌≢◌, inl, inr, ⊎_elim}
 use Prim.Native.Nat.{ℕ, ◌+◌, ◌<◌, ◌≤◌}
 use native.Mathlib.Omega.{arith}
@@ -16,7 +17,7 @@ use Rattle.wire.specs.Walk.{between, size_at, late, unfinished_at, header_rules,
 use Rattle.wire.specs.Chain.{Passable, Passed, Other, Refusal}
 use Rattle.wire.specs.Chain as chain
 use Rattle.wire.specs.declared.way.Met.{Met}
-use Rattle.wire.specs.declared.way.Met.TheVariants.{Refused, Header, Message}
+use Rattle.wire.specs.declared.way.Met.TheVariants.{Header, Message}
 
 pub by_equal : {A : Type 0} (a b : ℕ) → (a ≡ b → A) → (a ≢ b → A) → A
 by_equal a b same other = by_cases (eqb a b) (λ e. same (eqb-true a b e)) (λ e. other (eqb-false a b e))
@@ -36,49 +37,49 @@ early n at k =
 
 -- ---- each answer, from the facts that lead to it
 module _ (p : List ℕ) (end left n at : ℕ) where
-  pub message : Other n → Message ≡ met_of p end left n at
+  pub message : Other n → Ok Message ≡ met_of p end left n at
   unfolding met_of between
   message o = simp (ne_eqb n 0 o.hop, ne_eqb n 43 o.routing, ne_eqb n 44 o.fragment, ne_eqb n 60 o.destination)
 
-  pub fragment : n ≡ 44 → Refused Fragment ≡ met_of p end left n at
+  pub fragment : n ≡ 44 → Err Fragment ≡ met_of p end left n at
   unfolding met_of header_rules between
   fragment h = rw h
 
-  pub tardy : n ≡ 0 → at ≢ 40 → Refused Uncovered ≡ met_of p end left n at
+  pub tardy : n ≡ 0 → at ≢ 40 → Err Uncovered ≡ met_of p end left n at
   unfolding met_of header_rules between late
   tardy h l = rw h (simp (ne_eqb at 40 l))
 
   module _ (k : Passable n at) where
-    pub ninth : left ≡ 0 → Refused Uncovered ≡ met_of p end left n at
+    pub ninth : left ≡ 0 → Err Uncovered ≡ met_of p end left n at
     unfolding met_of header_rules
     ninth z = let e = early n at k in simp (e.met, e.whole, e.prompt, eq-eqb)
 
     module _ (some : left ≢ 0) where
-      pub short : end < at + 8 → Refused Shape ≡ met_of p end left n at
+      pub short : end < at + 8 → Err Shape ≡ met_of p end left n at
       unfolding met_of header_rules
       short s = let e = early n at k in simp (e.met, e.whole, e.prompt, ne_eqb, lt-ltb)
 
       module _ (eight : at + 8 ≤ end) where
-        pub past : end < at + size_at p at → Refused Shape ≡ met_of p end left n at
+        pub past : end < at + size_at p at → Err Shape ≡ met_of p end left n at
         unfolding met_of header_rules
         past r = let e = early n at k in simp (e.met, e.whole, e.prompt, ne_eqb, le-ltb, lt-ltb)
 
-        pub segments : at + size_at p at ≤ end → unfinished_at p n at ≡ true → Refused Uncovered ≡ met_of p end left n at
+        pub segments : at + size_at p at ≤ end → unfinished_at p n at ≡ true → Err Uncovered ≡ met_of p end left n at
         unfolding met_of header_rules
         segments r u = let e = early n at k in simp (e.met, e.whole, e.prompt, ne_eqb, le-ltb, u)
 
-        pub passed : at + size_at p at ≤ end → unfinished_at p n at ≡ false → Header ≡ met_of p end left n at
+        pub passed : at + size_at p at ≤ end → unfinished_at p n at ≡ false → Ok Header ≡ met_of p end left n at
         unfolding met_of header_rules
         passed r u = let e = early n at k in simp (e.met, e.whole, e.prompt, ne_eqb, le-ltb, u)
 
 -- ---- one of them it is, and for a reason that leaves out the others
-pub data Sorted (p : List ℕ) (end left n at : ℕ) : Met → Type 0 where
-  arrives : Other n → Sorted p end left n at Message
-  refuses : {v : Verdict} → Refusal p end left n at v → Sorted p end left n at (Refused v)
-  passes : left ≢ 0 → Passed p end n at → Sorted p end left n at Header
+pub data Sorted (p : List ℕ) (end left n at : ℕ) : Result Met Verdict → Type 0 where
+  arrives : Other n → Sorted p end left n at (Ok Message)
+  refuses : {v : Verdict} → Refusal p end left n at v → Sorted p end left n at (Err v)
+  passed-on : left ≢ 0 → Passed p end n at → Sorted p end left n at (Ok Header)
 
-is-passed : {p : List ℕ} {end left n at : ℕ} → Sorted p end left n at Header → (left ≢ 0) × Passed p end n at
-is-passed (passes z q) = (z, q)
+is-passed : {p : List ℕ} {end left n at : ℕ} → Sorted p end left n at (Ok Header) → (left ≢ 0) × Passed p end n at
+is-passed (passed-on z q) = (z, q)
 
 module _ (p : List ℕ) (end left n at : ℕ) where
   segments-left : n ≡ 43 → byte_at p (at + 3) ≢ 0 → unfinished_at p n at ≡ true
@@ -89,7 +90,7 @@ module _ (p : List ℕ) (end left n at : ℕ) where
   unfolding unfinished_at
   none_left f = by_equal n 43 (λ e. simp (eq-eqb n 43 e, eq-eqb (byte_at p (at + 3)) 0 (f e))) (λ e. simp (ne_eqb n 43 e))
 
-  pub refusal-met : {v : Verdict} → Refusal p end left n at v → Refused v ≡ met_of p end left n at
+  pub refusal-met : {v : Verdict} → Refusal p end left n at v → Err v ≡ met_of p end left n at
   refusal-met (chain.split e) = fragment p end left n at e
   refusal-met (chain.late e l) = tardy p end left n at e l
   refusal-met (chain.ninth k z) = ninth p end left n at k z
@@ -99,14 +100,14 @@ module _ (p : List ℕ) (end left n at : ℕ) where
   ]
   refusal-met (chain.unfinished e z h b) = segments p end left n at (inr (inl e)) z (omega arith) h (segments-left e b)
 
-  pub passed-met : left ≢ 0 → Passed p end n at → Header ≡ met_of p end left n at
+  pub passed-met : left ≢ 0 → Passed p end n at → Ok Header ≡ met_of p end left n at
   passed-met z q = passed p end left n at q.kind z (omega (arith, q.fits)) q.fits (none_left q.finished)
 
   refuse : {v : Verdict} → Refusal p end left n at v → Sorted p end left n at (met_of p end left n at)
   refuse r = rw (← refusal-met r) (refuses r)
 
   pass : left ≢ 0 → Passed p end n at → Sorted p end left n at (met_of p end left n at)
-  pass z q = rw (← passed-met z q) (passes z q)
+  pass z q = rw (← passed-met z q) (passed-on z q)
 
   -- one that may be passed: ninth, then reach, then segments left
   sort-passable : Passable n at → Sorted p end left n at (met_of p end left n at)
@@ -130,5 +131,10 @@ module _ (p : List ℕ) (end left n at : ℕ) where
       (λ d. let o : Other n = record { hop = h; routing = r; fragment = f; destination = d } in rw (← message p end left n at o) (arrives o)))))
 
   -- a header is passed only where one is left
-  pub met-passed : Header ≡ met_of p end left n at → (left ≢ 0) × Passed p end n at
+  pub met-passed : Ok Header ≡ met_of p end left n at → (left ≢ 0) × Passed p end n at
   met-passed e = is-passed (rw (← e) at sorted)
+
+-- where the answer r is a header
+module _ {p : List ℕ} {end left n at : ℕ} where
+  pub passes : {r : Result Met Verdict} {m : Met} → r ≡ Ok m → m ≡ Header → r ≡ met_of p end left n at → (left ≢ 0) × Passed p end n at
+  passes a b e = met-passed p end left n at (sym (rw b at a) ∙ e)

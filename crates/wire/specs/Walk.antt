@@ -1,5 +1,5 @@
 -- The way from the IP header to the message: in IPv4 there is none, in IPv6 it leads over the headers between (RFC 8200, 4).
-use Rattle.std.specs.Prelude.{ℕ, zero, suc, ◌+◌, ◌*◌, List, [], ◌∷◌, Bool, false, not, ◌&&◌, ◌||◌, ltb, eqb, if◌then◌else◌}
+use Rattle.std.specs.Prelude.{ℕ, zero, suc, ◌+◌, ◌*◌, List, [], ◌∷◌, Bool, false, not, ◌&&◌, ◌||◌, ltb, eqb, if◌then◌else◌, Result, Ok, Err}
 use Rattle.verdicts.specs.Numbers.{number_of}
 use Rattle.verdicts.specs.Rules.{Rule, ◌⇒◌, first}
 use Rattle.verdicts.specs.declared.Verdict.{Verdict}
@@ -38,8 +38,8 @@ header_rules p end left n at =
     ∷ []
 
 -- what stands where n is the next header: the message, or a header, which is refused or passed
-unfoldable pub met_of : List ℕ → (end left n at : ℕ) → Met
-met_of p end left n at = if between n then first (header_rules p end left n at) met.Refused met.Header else met.Message
+unfoldable pub met_of : List ℕ → (end left n at : ℕ) → Result Met Verdict
+met_of p end left n at = if between n then first (header_rules p end left n at) Err (Ok met.Header) else Ok met.Message
 
 -- ---- the walk
 -- it ends in a refusal, or at the message, of protocol n at a place
@@ -48,10 +48,10 @@ pub data Way : Type 0 where
   reached : (n at : ℕ) → Way
 
 -- and goes on behind a header that is passed
-abbrev pub going : Met → (n at : ℕ) → Way → Way
-going (met.Refused v) n at on = refused v
-going met.Message n at on = reached n at
-going met.Header n at on = on
+abbrev pub going : Result Met Verdict → (n at : ℕ) → Way → Way
+going (Err v) n at on = refused v
+going (Ok met.Message) n at on = reached n at
+going (Ok met.Header) n at on = on
 
 -- byte 0 of a header is the next one; so many are left, and where none is, none is passed
 unfoldable pub walk_by : (left : ℕ) → List ℕ → (end n at : ℕ) → Way

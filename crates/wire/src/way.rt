@@ -2,14 +2,14 @@
 //
 // Hop-by-hop, routing and destination options are passed, at most eight of them. The answer is the message's line of the
 // table and its place, or the first refusal on the way.
-ghost use Rattle.std.specs.Prelude.{◌≡◌, ◌+◌, ◌≤◌, length};
+ghost use Rattle.std.specs.Prelude.{◌≡◌, ◌+◌, ◌≤◌, length, Ok};
 ghost use Rattle.wire.specs.Outer.{outer_of};
 ghost use Rattle.wire.specs.Walk.{reached, size_at, unfinished_at, met_of, walk_by};
 ghost use Rattle.wire.specs.Chain.{Passable};
 ghost use Rattle.wire.specs.Inner.{listed, way_of};
 
 use crate::bits::wide;
-use crate::{Carried, Family, Frame, Header, Protocol, Walked};
+use crate::{Carried, Family, Header, ICMP, ICMP_6, LEAST_6, Protocol, TCP, UDP};
 use verdicts::Verdict;
 
 // The headers between.
@@ -30,83 +30,72 @@ const UNIT: usize = 8;
 
 const MOST: usize = 8;
 
-// What stands at a place: a header that is refused, one that is passed, or the message.
+// What stands at a place: a header that is passed, or the message.
 #[derive(Clone, Copy)]
 enum Met {
-    Refused(Verdict),
     Header,
     Message,
 }
 
 // What a packet whose IP header is h carries, or the first refusal on the way there.
-pub fn walk(packet: &[u8], h: Header) -> Walked
-    requires { Frame.Ip h ≡ outer_of packet.now }
+#[inline(always)]
+pub fn walk(packet: &[u8], h: Header) -> Result<Carried, Verdict>
+    requires { Ok h ≡ outer_of packet.now }
     ensures { result ≡ way_of packet.now }
 {
-    let family = h.family;
-    match family {
+    match h.family {
         Family::Four => walk4(packet, h),
         Family::Six => walk6(packet, h),
     }
 }
 
 // A fragment, or the message directly behind the header. The packet is asked for by the contract alone.
-fn walk4(packet: &[u8], h: Header) -> Walked
-    requires { (Frame.Ip h ≡ outer_of packet.now) × (h.family ≡ Family.Four) }
+#[inline(always)]
+fn walk4(packet: &[u8], h: Header) -> Result<Carried, Verdict>
+    requires { (Ok h ≡ outer_of packet.now) × (h.family ≡ Family.Four) }
     ensures { result ≡ way_of packet.now }
 {
     if h.fragment {
-        return Walked::Refused(Verdict::Fragment);
+        return Err(Verdict::Fragment);
     }
-    let protocol = h.next;
-    match protocol {
-        crate::UDP => carried(Family::Four, Protocol::Udp, h.end, h.declared),
-        crate::TCP => carried(Family::Four, Protocol::Tcp, h.end, h.declared),
-        crate::ICMP => carried(Family::Four, Protocol::Icmp, h.end, h.declared),
-        _ => Walked::Refused(Verdict::Uncovered),
-    }
+    listed(Family::Four, h.next, h.end, h.declared)
 }
 
-// Mostly no header stands between, and then one match does.
-fn walk6(packet: &[u8], h: Header) -> Walked
-    requires { (Frame.Ip h ≡ outer_of packet.now) × (h.family ≡ Family.Six) }
+// Mostly no header stands between.
+#[inline(always)]
+fn walk6(packet: &[u8], h: Header) -> Result<Carried, Verdict>
+    requires { (Ok h ≡ outer_of packet.now) × (h.family ≡ Family.Six) }
     ensures { result ≡ way_of packet.now }
 {
-    let next = h.next;
-    match next {
-        crate::UDP => carried(Family::Six, Protocol::Udp, h.end, h.declared),
-        crate::TCP => carried(Family::Six, Protocol::Tcp, h.end, h.declared),
-        crate::ICMP_6 => carried(Family::Six, Protocol::Icmp6, h.end, h.declared),
-        _ => behind(packet, h),
+    match listed(Family::Six, h.next, h.end, h.declared) {
+        Ok(carried) => Ok(carried),
+        Err(_) => behind(packet, h),
     }
 }
 
-// The loop is called at two places: so it stays apart, and LLVM takes the rest into every caller.
-fn behind(packet: &[u8], h: Header) -> Walked
-    requires { (Frame.Ip h ≡ outer_of packet.now) × (h.family ≡ Family.Six) }
+// The loop's answer is taken out of memory here, and not where no header stands between.
+#[inline(always)]
+fn behind(packet: &[u8], h: Header) -> Result<Carried, Verdict>
+    requires { (Ok h ≡ outer_of packet.now) × (h.family ≡ Family.Six) }
     ensures { result ≡ way_of packet.now }
 {
-    let end = h.declared;
-    let next = h.next;
-    if next == HOP_BY_HOP {
-        return between(&packet[..end], HOP_BY_HOP);
-    }
-    between(&packet[..end], next)
+    Ok(between(&packet[..h.declared], h.next)?)
 }
 
-// The walk over the headers between, of a packet that ends where it is declared to.
-fn between(packet: &[u8], first: u8) -> Walked
+// The walk over the headers between, of a packet that ends where it is declared to. The loop stays apart, and LLVM takes the
+// rest into every caller.
+#[inline(never)]
+fn between(packet: &[u8], first: u8) -> Result<Carried, Verdict>
     requires { 40 ≤ length packet.now }
     ensures { result ≡ listed Family.Six (length packet.now) (walk_by 8 packet.now (length packet.now) first 40) }
 {
     let mut next = first;
-    let mut at = crate::LEAST_6;
+    let mut at = LEAST_6;
+    // kept: behind a `for` over the headers left an answer would stand that never comes
     let mut left = MOST;
     loop {
-        let met = meet(packet, left, next, at);
-        match met {
-            Met::Refused(v) => return Walked::Refused(v),
-            Met::Message => return reached(packet.len(), next, at),
+        match meet(packet, left, next, at)? {
+            Met::Message => return listed(Family::Six, next, at, packet.len()),
             Met::Header => {
                 next = packet[at];
                 at += size(packet, at);
@@ -116,43 +105,43 @@ fn between(packet: &[u8], first: u8) -> Walked
     }
 }
 
-// What stands at a place where `next` is the next header and so many headers are left.
-fn meet(packet: &[u8], left: usize, next: u8, at: usize) -> Met
+// What stands at a place where `next` is the next header and so many headers are left, or its refusal.
+fn meet(packet: &[u8], left: usize, next: u8, at: usize) -> Result<Met, Verdict>
     requires { at ≤ length packet.now }
     ensures { result ≡ met_of packet.now (length packet.now) left next at }
 {
     match next {
-        FRAGMENT => Met::Refused(Verdict::Fragment),
+        FRAGMENT => Err(Verdict::Fragment),
         HOP_BY_HOP => {
-            if at != crate::LEAST_6 {
-                return Met::Refused(Verdict::Uncovered);
+            if at != LEAST_6 {
+                return Err(Verdict::Uncovered);
             }
             header(packet, left, next, at)
         }
         ROUTING | DESTINATION => header(packet, left, next, at),
-        _ => Met::Message,
+        _ => Ok(Met::Message),
     }
 }
 
 // A header that is no fragment and not late: whether it is the ninth, its reach, its segments left.
-fn header(packet: &[u8], left: usize, next: u8, at: usize) -> Met
+fn header(packet: &[u8], left: usize, next: u8, at: usize) -> Result<Met, Verdict>
     requires { (at ≤ length packet.now) × Passable next at }
     ensures { result ≡ met_of packet.now (length packet.now) left next at }
 {
     if left == 0 {
-        return Met::Refused(Verdict::Uncovered);
+        return Err(Verdict::Uncovered);
     }
     let room = packet.len() - at;
     if room < UNIT {
-        return Met::Refused(Verdict::Shape);
+        return Err(Verdict::Shape);
     }
     if room < size(packet, at) {
-        return Met::Refused(Verdict::Shape);
+        return Err(Verdict::Shape);
     }
     if unfinished(packet, next, at) {
-        return Met::Refused(Verdict::Uncovered);
+        return Err(Verdict::Uncovered);
     }
-    Met::Header
+    Ok(Met::Header)
 }
 
 // The size of the header at a place.
@@ -174,22 +163,19 @@ fn unfinished(packet: &[u8], next: u8, at: usize) -> bool
     packet[at + SEGMENTS_LEFT] != 0
 }
 
-// The message that the walk reaches.
-fn reached(declared: usize, protocol: u8, start: usize) -> Walked
-    ensures { result ≡ listed Family.Six declared (reached protocol start) }
+// The message of a protocol, if the family's table has that.
+#[inline(always)]
+fn listed(family: Family, next: u8, start: usize, declared: usize) -> Result<Carried, Verdict>
+    ensures { result ≡ listed family declared (reached next start) }
 {
-    match protocol {
-        crate::UDP => carried(Family::Six, Protocol::Udp, start, declared),
-        crate::TCP => carried(Family::Six, Protocol::Tcp, start, declared),
-        crate::ICMP_6 => carried(Family::Six, Protocol::Icmp6, start, declared),
-        _ => Walked::Refused(Verdict::Uncovered),
-    }
-}
-
-fn carried(family: Family, protocol: Protocol, start: usize, declared: usize) -> Walked
-    ensures { result ≡ Walked.Reached (record { family = family; protocol = protocol; start = start; declared = declared }) }
-{
-    Walked::Reached(Carried {
+    let protocol = match (family, next) {
+        (_, UDP) => Protocol::Udp,
+        (_, TCP) => Protocol::Tcp,
+        (Family::Four, ICMP) => Protocol::Icmp,
+        (Family::Six, ICMP_6) => Protocol::Icmp6,
+        _ => return Err(Verdict::Uncovered),
+    };
+    Ok(Carried {
         family,
         protocol,
         start,

@@ -12,7 +12,7 @@ returns c =
     let xs = c.args.header.now in
     let l = c.requires.0 in
     c.fours.ensures
-    ∙ more-four xs _ _ _ 16 20 (omega arith) refl c.le4.ensures.0 c.carry.ensures
+    ∙ more-four xs _ _ _ 16 20 (omega arith) refl c.le4.ensures c.carry.ensures
     ∙ more-eight xs _ _ _ 8 16 (omega arith) refl c.le8-2.ensures c.carry-first.ensures
     ∙ more-eight xs 0 _ _ 0 8 (omega arith) refl c.le8.ensures (ap fold (sym (zero-add _)))
     ∙ ap fold (zero-add _)

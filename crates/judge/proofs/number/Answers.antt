@@ -4,4 +4,4 @@ use Rattle.verdicts.specs.Numbers.{number_of}
 use Rattle.judge.proofs.number.Goals as goal
 
 pub returns : goal.returns
-returns c = c.number.ensures ∙ ap number_of c.judge.ensures
+returns c = c.from.ensures ∙ ap number_of c.judge.ensures

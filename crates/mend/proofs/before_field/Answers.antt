@@ -11,6 +11,6 @@ returns c =
     let xs = c.args.b.now in
     let l = c.requires in
     more-end xs _ 10 (omega arith)
-    ∙ more-two xs _ _ _ 8 10 (omega arith) refl c.le2.ensures.0 c.carry.ensures
+    ∙ more-two xs _ _ _ 8 10 (omega arith) refl c.le2.ensures c.carry.ensures
     ∙ more-eight xs 0 _ _ 0 8 (omega arith) refl c.le8.ensures (ap fold (sym (zero-add _)))
     ∙ ap fold (zero-add _)

@@ -1,4 +1,5 @@
 -- In each arm the protocol is the one that it names, and the table is computed.
+use Rattle.std.specs.Prelude.{Some, Ok}
 use mathlib.Core.Path.{◌≡◌, sym, ap}
 use mathlib.Core.List.{List}
 use Prim.Native.Nat.{ℕ}
@@ -10,13 +11,11 @@ use Rattle.wire.specs.Inner.{protocol_of, row_in, way_of, Carrying}
 use Rattle.wire.specs.declared.Carried.{Carried}
 use Rattle.wire.specs.declared.Plan.{Plan}
 use Rattle.wire.specs.declared.Protocol.{Protocol}
-use Rattle.wire.specs.declared.Row.TheVariants.{Covered}
-use Rattle.wire.specs.declared.Walked.TheVariants.{Reached}
 use Rattle.wire.proofs.Lines.{Named, named, named-icmp, named-tcp, named-udp, named-icmp6, tcp-row, udp-row}
 use Rattle.wire.proofs.Held.{Reaches, reaches}
 use Rattle.wire.proofs.inner.Goals as goal
 
-module _ (p : List ℕ) (c : Carried) (o : IsClear (outer_rules p)) (e : Reached c ≡ way_of p) where
+module _ (p : List ℕ) (c : Carried) (o : IsClear (outer_rules p)) (e : Ok c ≡ way_of p) where
   known : Reaches p c
   known = reaches p c e
 
@@ -24,7 +23,7 @@ module _ (p : List ℕ) (c : Carried) (o : IsClear (outer_rules p)) (e : Reached
   name : (k : Protocol) → c.protocol ≡ k → Named (family_of p) (protocol_of p) k
   name k i = rw (sym i, ap (λ (x : Carried). x.protocol) known.is) (named (family_of p) (protocol_of p) known.covered)
 
-  carrying : (n : ℕ) (plan : Plan) → protocol_of p ≡ n → row_in p ≡ Covered plan → Carrying p c n plan
+  carrying : (n : ℕ) (plan : Plan) → protocol_of p ≡ n → row_in p ≡ Some plan → Carrying p c n plan
   carrying n plan i r =
       let k = known.is in
       record { outer = o; family = rw k; start = rw k; declared = rw k; protocol = i; row = r }

@@ -1,38 +1,36 @@
 -- The loop keeps `Walking`, and what is met says how it goes on.
-use mathlib.Core.Path.{refl, sym, ap, ◌∙◌}
+use Rattle.std.proofs.Common.{refl, sym, ap, ◌∙◌}
 use native.Mathlib.Omega.{arith}
+use Rattle.verdicts.proofs.Rules.{passed-on}
 use Rattle.wire.specs.Inner.{listed}
 use Rattle.wire.specs.declared.Family.TheVariants.{Six}
-use Rattle.wire.proofs.Meeting.{met-passed}
+use Rattle.wire.proofs.Meeting.{passes}
 use Rattle.wire.proofs.Ways.{walking-refused, walking-message, walking-header}
 use Rattle.wire.proofs.way.between.Goals as goal
 
-pub loop-v-init : goal.loop-v-init
-loop-v-init c = record { rest = refl; near = c.requires }
-
-pub meet-met-requires : goal.meet-met-requires
-meet-met-requires c = c.loop-v.invariant.near
-
-pub returns-in-Refused : goal.returns-in-Refused
-returns-in-Refused c = walking-refused c.loop-v.invariant (sym c.in-Refused.is ∙ c.meet-met.ensures)
+pub returns-in_err-meet : goal.returns-in_err-meet
+returns-in_err-meet c =
+    passed-on c.from_residual.ensures ∙ walking-refused c.loop-next.invariant (sym c.in_err-meet.was ∙ c.meet.ensures)
 
 pub returns-in-Message : goal.returns-in-Message
-returns-in-Message c = c.reached.ensures ∙ ap (listed Six _) (walking-message c.loop-v.invariant (sym c.in-Message.is ∙ c.meet-met.ensures))
+returns-in-Message c =
+    c.listed.ensures ∙ ap (listed Six _) (walking-message c.loop-next.invariant (sym (rw c.in-Message.is at c.in_ok-meet.was) ∙ c.meet.ensures))
 
 pub bounds-packet-at : goal.bounds-packet-at
-bounds-packet-at c = let q = (met-passed _ _ _ _ _ (sym c.in-Header.is ∙ c.meet-met.ensures)).1 in omega (arith, q.fits)
+bounds-packet-at c = let q = (passes c.in_ok-meet.was c.in-Header.is c.meet.ensures).1 in omega (arith, q.fits)
 
 pub size-at-requires : goal.size-at-requires
-size-at-requires c = let q = (met-passed _ _ _ _ _ (sym c.in-Header.is ∙ c.meet-met.ensures)).1 in omega (arith, q.fits)
+size-at-requires c = let q = (passes c.in_ok-meet.was c.in-Header.is c.meet.ensures).1 in omega (arith, q.fits)
 
 pub overflow_add-at : goal.overflow_add-at
-overflow_add-at c = let q = (met-passed _ _ _ _ _ (sym c.in-Header.is ∙ c.meet-met.ensures)).1 in omega (arith, q.fits, c.size-at.ensures)
+overflow_add-at c = let q = (passes c.in_ok-meet.was c.in-Header.is c.meet.ensures).1 in omega (arith, q.fits, c.size-at.ensures)
 
 pub overflow_sub-left : goal.overflow_sub-left
-overflow_sub-left c = let q = (met-passed _ _ _ _ _ (sym c.in-Header.is ∙ c.meet-met.ensures)).0 in omega arith
+overflow_sub-left c = let q = (passes c.in_ok-meet.was c.in-Header.is c.meet.ensures).0 in omega arith
 
-pub loop-v-smaller : goal.loop-v-smaller
-loop-v-smaller c = let q = (met-passed _ _ _ _ _ (sym c.in-Header.is ∙ c.meet-met.ensures)).0 in omega arith
+pub loop-next-smaller : goal.loop-next-smaller
+loop-next-smaller c = let q = (passes c.in_ok-meet.was c.in-Header.is c.meet.ensures).0 in omega arith
 
-pub loop-v-preserved : goal.loop-v-preserved
-loop-v-preserved c = walking-header c.loop-v.invariant (sym c.in-Header.is ∙ c.meet-met.ensures) refl (rw c.size-at.ensures)
+pub loop-next-preserved : goal.loop-next-preserved
+loop-next-preserved c =
+    walking-header c.loop-next.invariant (sym (rw c.in-Header.is at c.in_ok-meet.was) ∙ c.meet.ensures) refl (rw c.size-at.ensures)

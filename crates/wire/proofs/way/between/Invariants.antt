@@ -4,8 +4,8 @@ use Rattle.wire.specs.Walk.{walk_by}
 use Rattle.wire.proofs.Ways.{Walking}
 use Rattle.wire.proofs.way.between.Given as goal
 
-abbrev pub invariant-loop-v : goal.invariant-loop-v
-invariant-loop-v l = Walking l.packet (length l.packet) l.next l.at l.left (walk_by 8 l.packet (length l.packet) l.first 40)
+abbrev pub invariant-loop-next : goal.invariant-loop-next
+invariant-loop-next l = Walking l.packet (length l.packet) l.next l.at l.left (walk_by 8 l.packet (length l.packet) l.first 40)
 
-abbrev pub decreases-loop-v : goal.decreases-loop-v
-decreases-loop-v l = l.left
+abbrev pub decreases-loop-next : goal.decreases-loop-next
+decreases-loop-next l = l.left

@@ -1,0 +1,2 @@
+-- Lemmas on bytes written in place.
+pub mod Over
