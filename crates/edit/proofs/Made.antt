@@ -10,20 +10,22 @@ use lib.Dec.{eqb}
 use borrow.Author.Tests.{lt-ltb, le-ltb}
 use Rattle.verdicts.specs.declared.Verdict.{Verdict}
 use Rattle.verdicts.specs.declared.Verdict.TheVariants.{Good, Spent}
+use Rattle.verdicts.proofs.Tests.{by_cases}
 use Rattle.sums.specs.Total.{odd, weigh}
 use Rattle.sums.specs.Fold.{swap}
 use Rattle.sums.specs.Partials.{swap_if}
 use Rattle.sums.proofs.Folds.{mod-in}
 use Rattle.wire.specs.Bytes.{byte_at, word_at, part, put, put_word}
-use Rattle.wire.specs.Outer.{four, header_field}
+use Rattle.wire.specs.Outer.{four, family_of, header_field, lifetime_at}
 use Rattle.wire.specs.Inner.{Holds, start_of}
+use Rattle.wire.specs.declared.Family.{Family}
 use Rattle.wire.specs.declared.Message.{Message}
-use Rattle.wire.proofs.Held.{held-silent}
+use Rattle.wire.proofs.Held.{held-silent, family4, family6}
 use Rattle.mend.specs.Fresh.{sent}
 use Rattle.kept.specs.Update.{updated_at, header_after, message_after}
 use Rattle.steps.specs.Steps.{Change, Renewed, message_put}
 use Rattle.steps.proofs.Changes.{changes}
-use Rattle.edit.specs.Rest.{lifetime_in}
+use Rattle.edit.specs.Rest.{header_put, lifetime_by, lifetime_in}
 
 -- ---- the change of the bytes from a, n old ones for new ones
 pub part-changes : (p : List ℕ) (a n d : ℕ) (new : List ℕ) → n ≡ length new
@@ -46,15 +48,9 @@ module _ (p : List ℕ) (pos a d : ℕ) (new : List ℕ) (k : Change d (weigh (o
 
 -- ---- the lifetime
 module _ (p : List ℕ) where
-  pub spent4 : four p ≡ true → byte_at p 8 < 2 → ◌≡◌ {A = Verdict × List ℕ} (Spent, p) (lifetime_in p)
-  spent4 f l = simp (f, lt-ltb)
-
-  pub spent6 : four p ≡ false → byte_at p 7 < 2 → ◌≡◌ {A = Verdict × List ℕ} (Spent, p) (lifetime_in p)
-  spent6 f l = simp (f, lt-ltb)
-
-  pub lowered6 : four p ≡ false → 2 ≤ byte_at p 7 → ◌≡◌ {A = Verdict × List ℕ} (Good, set p 7 (byte_at p 7 - 1)) (lifetime_in p)
-  unfolding header_after put
-  lowered6 f l = simp (f, le-ltb)
+  lifetime-is : lifetime_by (family_of p) ≡ lifetime_at p
+  unfolding family_of
+  lifetime-is = by_cases (four p) (λ f. simp f) (λ f. simp f)
 
   abbrev one_less : List ℕ
   one_less = (byte_at p 8 - 1) ∷ []
@@ -66,12 +62,30 @@ module _ (p : List ℕ) where
       let f : weigh (odd 8) one_less ≡ 256 * (byte_at p 8 - 1) = omega arith in
       rw (e, f) (mod-in (65534 + 256 * (256 * byte_at p 8)) (256 * (256 * (byte_at p 8 - 1))) 0 2 (omega arith))
 
-  pub lowered4 : four p ≡ true → 8 < length p → 2 ≤ byte_at p 8 → (w : ℕ) → Renewed false (word_at p header_field) 65534 w
-      → ◌≡◌ {A = Verdict × List ℕ} (Good, put_word (set p 8 (byte_at p 8 - 1)) header_field (swap w)) (lifetime_in p)
-  unfolding put
-  lowered4 f n l w r =
-      ap (λ (q : List ℕ). (Good, q)) (header_made p 8 8 65534 one_less (lifetime-changes n l) f refl w r (set p 8 (byte_at p 8 - 1)))
-      ∙ sym (simp (f, le-ltb))
+  module _ (family : Family) (is : family ≡ family_of p) (a : ℕ) (e : a ≡ lifetime_by family) where
+    at : a ≡ lifetime_at p
+    at = e ∙ ap lifetime_by is ∙ lifetime-is
+
+    pub spent : byte_at p a < 2 → ◌≡◌ {A = Verdict × List ℕ} (Spent, p) (lifetime_in p)
+    spent l = let k : byte_at p (lifetime_at p) < 2 = rw at at l in simp lt-ltb
+
+    -- w is the header's new field
+    pub lowered-to : 8 < length p → 2 ≤ byte_at p a → (w : ℕ) → Renewed false (word_at p header_field) 65534 w
+        → (q : List ℕ) → q ≡ header_put family (set p a (byte_at p a - 1)) w → ◌≡◌ {A = Verdict × List ℕ} (Good, q) (lifetime_in p)
+    unfolding put header_after
+    lowered-to n l w r q eq =
+        by_cases (four p)
+        (λ f.
+        let a8 : a ≡ 8 = simp f at at in
+        let m : 2 ≤ byte_at p 8 = rw a8 at l in
+        let s : header_put family (set p a (byte_at p a - 1)) w ≡ put_word (set p 8 (byte_at p 8 - 1)) header_field (swap w) = rw (is ∙ family4 p f, a8) in
+        ap (λ (q : List ℕ). (Good, q)) (eq ∙ s ∙ header_made p 8 8 65534 one_less (lifetime-changes n m) f refl w r (set p 8 (byte_at p 8 - 1)))
+        ∙ sym (simp (f, le-ltb)))
+        (λ f.
+        let a7 : a ≡ 7 = simp f at at in
+        let m : 2 ≤ byte_at p 7 = rw a7 at l in
+        let s : header_put family (set p a (byte_at p a - 1)) w ≡ set p 7 (byte_at p 7 - 1) = rw (is ∙ family6 p f, a7) in
+        ap (λ (q : List ℕ). (Good, q)) (eq ∙ s) ∙ sym (simp (f, le-ltb)))
 
 -- ---- the stretch, whose change is c where its first byte stands at an even position
 pub stretch-made : {p : List ℕ} {m : Message} → Holds p m → (a : ℕ) (new : List ℕ) (c d v : ℕ)

@@ -1,115 +1,86 @@
--- Each answer of the address edit's own rules, and the bytes that it leaves.
-use Prim.Native.Nat.{ℕ, ◌+◌, ◌-◌, ◌*◌, ◌%◌, ◌<◌, ◌≤◌}
-use mathlib.Core.Path.{◌≡◌, sym, ap, ◌∙◌}
-use mathlib.Core.Bool.{Bool, true, false, not, true≢false, ◌&&◌}
-use mathlib.Core.List.{List}
-use native.Mathlib.Omega.{arith}
-use lib.ListN.{length}
-use lib.Dec.{eqb}
-use borrow.Author.Tests.{eq-eqb, ne_eqb}
+-- What the address edit leaves.
+use Rattle.std.proofs.Common.{◌≡◌, ℕ, ◌+◌, ◌-◌, ◌%◌, Bool, true, false, not, ◌&&◌, List, [], ◌∷◌, length, eqb, Result, Ok, Err, sym, ap, ◌∙◌, arith}
+use borrow.Author.Tests.{eq-eqb}
+use Rattle.verdicts.specs.Rules.{◌⇒◌}
 use Rattle.verdicts.specs.declared.Verdict.{Verdict}
 use Rattle.verdicts.specs.declared.Verdict.TheVariants.{Good, Place}
 use Rattle.verdicts.proofs.Tests.{by_cases}
 use Rattle.sums.specs.Total.{odd, weigh}
-use Rattle.sums.specs.Fold.{swap}
-use Rattle.wire.specs.Bytes.{word_at, part, put, put_word}
+use Rattle.sums.specs.Fold.{fold}
+use Rattle.wire.specs.Bytes.{word_at, part, put}
 use Rattle.wire.specs.Outer.{four, address_size, addresses_at, header_field}
-use Rattle.wire.specs.Inner.{Holds, silent_of}
+use Rattle.wire.specs.Inner.{pseudo, Holds}
 use Rattle.wire.specs.declared.Message.{Message}
-use Rattle.wire.proofs.Held.{pseudo-six, held-silent}
+use Rattle.wire.proofs.Held.{answered, known, family4, family6}
 use Rattle.kept.specs.Update.{header_after}
-use Rattle.kept.specs.Edits.{address_left, side_at}
-use Rattle.kept.proofs.Sides.{side-known, side-at}
-use Rattle.steps.specs.Steps.{Change, Renewed, message_put}
-use Rattle.edit.specs.Rest.{address_in}
+use Rattle.kept.specs.Edits.{Addressed, side_at, address_rules, address_left, address_of}
+use Rattle.steps.specs.Steps.{Change, Renewed, message_put, editable_of}
+use Rattle.steps.specs.Sides.{side_of, placed}
+use Rattle.steps.specs.declared.side.Side.{Side}
+use Rattle.steps.proofs.Common.{by_editable}
+use Rattle.steps.proofs.Sides.{by_side, by_side_then, side-placed}
+use Rattle.steps.proofs.Changes.{low-change, changes}
+use Rattle.edit.specs.Rest.{header_put, address_in, address_on}
 use Rattle.edit.proofs.Made.{header_made, message-made}
 
--- ---- refusals
-module _ (p : List ℕ) (side : ℕ) (new : List ℕ) where
-  pub other-side : 1 < side → ◌≡◌ {A = Verdict × List ℕ} (Place, p) (address_in p side new)
-  other-side h = simp (ne_eqb side 0 (λ e. omega arith), ne_eqb side 1 (λ e. omega arith))
+module _ (p : List ℕ) (a : ℕ) (new : List ℕ) where
+  -- what is left where d is the change of its bytes, by totals s and t
+  module _ (n : length new ≡ address_size p) (at : Addressed p a (length new)) {m : Message} (h : Holds p m) (d s t : ℕ)
+      (es : fold s ≡ fold (0 + weigh true (part p a (length new)))) (et : fold t ≡ fold (0 + weigh true new)) (e : (d + s) % 65535 ≡ t % 65535) where
+    position : odd (a - addresses_at p) ≡ false
+    unfolding odd
+    position = rw at.even
 
-  -- a side that is known leaves the size and what is written
-  pub other-size : side ≤ 1 → (length new ≡ address_size p → ⊥) → ◌≡◌ {A = Verdict × List ℕ} (Place, p) (address_in p side new)
-  other-size h n = simp (side-known side h, ne_eqb (length new) (address_size p) n)
+    even : odd a ≡ false
+    unfolding odd
+    even =
+        let k = at in
+        let z : addresses_at p % 2 ≡ 0 = by_cases (four p) (λ f. simp f) (λ f. simp f) in
+        let y : a % 2 ≡ 0 = omega arith in
+        rw y
 
-  pub side_set : side ≤ 1 → length new ≡ address_size p → ◌≡◌ {A = Verdict × List ℕ} (Good, address_left p (side_at p side) new) (address_in p side new)
-  side_set h n = sym (simp (side-known side h, eq-eqb (length new) (address_size p) n))
+    -- d counts them by their position in the pseudo-header
+    by-position : Change d (weigh (odd (a - addresses_at p)) (part p a (length new))) (weigh (odd (a - addresses_at p)) new)
+    by-position = rw position (changes (part p a (length new)) new d (low-change _ _ s t d es et e) false)
 
--- ---- IPv6: UDP's 0000 is missing, and every message has a pseudo-header
-pub summed6 : (p : List ℕ) → four p ≡ false → (silent_of p && not (four p)) ≡ false → silent_of p ≡ false
-summed6 p f e = by_cases (silent_of p) (λ t. absurd (true≢false (simp (t, f) at e))) (λ t. t)
+    -- l has the address, and w in the header's field
+    module _ (w : ℕ) (r : Renewed false (word_at p header_field) d w) (q l : List ℕ) (eq : q ≡ put p a new) (el : l ≡ header_put m.family q w) where
+      header-left : l ≡ header_after p a new (put p a new)
+      unfolding header_after
+      header-left =
+          let k = known h in
+          by_cases (four p)
+          (λ f. el ∙ rw (k.family ∙ family4 p f, eq) (header_made p (a - addresses_at p) a d new by-position f (even ∙ sym position) w r (put p a new)))
+          (λ f. el ∙ rw (k.family ∙ family6 p f) (eq ∙ sym (simp f)))
 
-pseudo6 : {p : List ℕ} {m : Message} → Holds p m → four p ≡ false → m.pseudo ≡ true
-pseudo6 {p} {m} h f = ap (λ (x : Message). x.pseudo) h.is ∙ pseudo-six p h.outer h.inner f
+      -- and v in the message's, where that covers the addresses and is in use
+      pub address-set : (v : ℕ) (silent : Bool) → silent ≡ (eqb m.protocol 17 && eqb (word_at p m.field) 0) → Renewed (eqb m.protocol 17) (word_at p m.field) d v
+          → (x : List ℕ) → (m.pseudo ≡ true → x ≡ message_put silent m.field l v) → (m.pseudo ≡ false → x ≡ l) → ◌≡◌ {A = Verdict × List ℕ} (Good, x) (address_in p a new)
+      address-set v silent es rv x on off =
+          let f = (known h).pseudo in
+          let made : x ≡ address_left p a new =
+          by_cases m.pseudo
+          (λ t.
+          let u : pseudo p ≡ true = sym f ∙ t in
+          on t ∙ rw header-left (message-made p (a - addresses_at p) a d new by-position h v silent es rv (header_after p a new (put p a new)) ∙ sym (simp u)))
+          (λ t. let u : pseudo p ≡ false = sym f ∙ t in off t ∙ rw header-left (sym (simp u))) in
+          ap (λ (x : List ℕ). (Good, x)) made ∙ sym (simp (eq-eqb (length new) (address_size p) n))
 
--- ---- a is the place of a side's address: even in the header and in the pseudo-header
-pub record Sided (p : List ℕ) (side a : ℕ) : Type 0 where
-  pub known : side ≤ 1
-  pub at : a ≡ side_at p side
-  pub even : odd a ≡ false
-  pub within : odd (a - addresses_at p) ≡ false
+-- ---- the side's own rule before those of the address
+module _ (p : List ℕ) (n : ℕ) (new : List ℕ) (s : Result Side Verdict) (e : s ≡ side_of n) where
+  asked : address_on p n new ≡ answered (λ v. (v, p)) (address_in p (side_at p n) new) s
+  asked = by_side n [] (λ v. (v, p)) (address_in p (side_at p n) new) ∙ rw (← e)
 
-module _ (p : List ℕ) (side : ℕ) (h : side ≤ 1) where
-  pub sided4 : four p ≡ true → Sided p side (12 + 4 * side)
-  unfolding odd
-  sided4 f =
-      let x : (12 + 4 * side) % 2 ≡ 0 = omega arith in
-      let y : (12 + 4 * side - 12) % 2 ≡ 0 = omega arith in
-      record { known = h; at = simp f (simp f at (side-at side h p)); even = rw x; within = simp f (rw y) }
+  pub side-refused : (v : Verdict) → s ≡ Err v → ◌≡◌ {A = Verdict × List ℕ} (v, p) (address_on p n new)
+  side-refused v f = sym (asked ∙ rw f)
 
-  pub sided6 : four p ≡ false → Sided p side (8 + 16 * side)
-  unfolding odd
-  sided6 f =
-      let x : (8 + 16 * side) % 2 ≡ 0 = omega arith in
-      let y : (8 + 16 * side - 8) % 2 ≡ 0 = omega arith in
-      record { known = h; at = simp f (simp f at (side-at side h p)); even = rw x; within = simp f (rw y) }
+  pub side-set : (k : Side) → s ≡ Ok k → address_in p (placed k (addresses_at p) (address_size p)) new ≡ address_on p n new
+  side-set k f = ap (λ a. address_in p a new) (side-placed p n k (sym f ∙ e)) ∙ sym (asked ∙ rw f)
 
--- ---- what is left where d is the change of its bytes
-module _ (p : List ℕ) (side a d : ℕ) (new : List ℕ) (s : Sided p side a) (n : length new ≡ address_size p)
-    (k : Change d (weigh false (part p a (length new))) (weigh false new)) where
-  -- d counts them by their position in the pseudo-header
-  by-position : Change d (weigh (odd (a - addresses_at p)) (part p a (length new))) (weigh (odd (a - addresses_at p)) new)
-  by-position = rw s.within k
-
-  abbrev Answers : List ℕ → Type 0
-  Answers l = ◌≡◌ {A = Verdict × List ℕ} (Good, l) (address_in p side new)
-
-  -- q has the address, and the header's field
-  module _ {m : Message} (h : Holds p m) (q : List ℕ) (e : q ≡ header_after p a new (put p a new)) where
-    left : (l : List ℕ) → l ≡ address_left p a new → Answers l
-    left l el = ap (λ (x : List ℕ). (Good, x)) (el ∙ ap (λ (x : ℕ). address_left p x new) s.at) ∙ side_set p side new s.known n
-
-    plain : m.pseudo ≡ false → Answers q
-    plain t = left q (e ∙ sym (simp (ap (λ (x : Message). x.pseudo) (sym h.is) ∙ t)))
-
-    with-message : (v : ℕ) (quiet : Bool) → quiet ≡ (eqb m.protocol 17 && eqb (word_at p m.field) 0)
-        → Renewed (eqb m.protocol 17) (word_at p m.field) d v
-        → (l : List ℕ) → l ≡ message_put quiet m.field q v → m.pseudo ≡ true → Answers l
-    with-message v quiet eq r l el t =
-        left l
-        (el ∙ ap (λ (x : List ℕ). message_put quiet m.field x v) e
-        ∙ message-made p (a - addresses_at p) a d new by-position h v quiet eq r (header_after p a new (put p a new))
-        ∙ sym (simp (ap (λ (x : Message). x.pseudo) (sym h.is) ∙ t)))
-
-  -- w is the header's new field, and v the message's
-  module _ (f : four p ≡ true) {m : Message} (h : Holds p m) (w : ℕ) (r : Renewed false (word_at p header_field) d w)
-      (q l : List ℕ) (eq : q ≡ put p a new) (el : l ≡ put_word q header_field (swap w)) where
-    header-left : l ≡ header_after p a new (put p a new)
-    header-left =
-        el ∙ ap (λ (x : List ℕ). put_word x header_field (swap w)) eq
-        ∙ header_made p (a - addresses_at p) a d new by-position f (s.even ∙ sym s.within) w r (put p a new)
-
-    pub plain4 : m.pseudo ≡ false → Answers l
-    plain4 = plain h l header-left
-
-    pub message4 : (v : ℕ) (quiet : Bool) → quiet ≡ (eqb m.protocol 17 && eqb (word_at p m.field) 0)
-        → Renewed (eqb m.protocol 17) (word_at p m.field) d v
-        → (x : List ℕ) → x ≡ message_put quiet m.field l v → m.pseudo ≡ true → Answers x
-    message4 = with-message h l header-left
-
-  pub message6 : four p ≡ false → silent_of p ≡ false → {m : Message} → Holds p m
-      → (v : ℕ) → Renewed (eqb m.protocol 17) (word_at p m.field) d v
-      → (q l : List ℕ) → q ≡ put p a new → l ≡ put_word q m.field (swap v) → Answers l
-  unfolding header_after
-  message6 f s h v r q l eq el = with-message h q (eq ∙ sym (simp f)) v false (sym (held-silent h ∙ s)) r l el (pseudo6 h f)
+-- and behind those of all edits
+pub side-behind : (p : List ℕ) (n : ℕ) (new : List ℕ) (r : Result Message Verdict) (m : Message) → r ≡ editable_of p → r ≡ Ok m → address_on p n new ≡ address_of p n new
+unfolding address_of
+side-behind p n new r m e f =
+    let size = (not (eqb (length new) (address_size p)) ⇒ Place) ∷ [] in
+    by_side_then n size (λ v. (v, p)) (Good, address_left p (side_at p n) new)
+    ∙ sym (by_editable p (address_rules p n new) (λ v. (v, p)) (Good, address_left p (side_at p n) new) ∙ rw (← e, f))

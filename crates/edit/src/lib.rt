@@ -2,15 +2,11 @@
 //
 // The sum fields are updated from the changed bytes and the old fields (RFC 1624), never worked out anew: what was
 // right stays right without the packet being read again, and what was wrong stays wrong. A refused edit changes no
-// byte.
-//
-// A lifetime stands in the header, so the packet need not have a message: a fragment's is lowered too. The other two
-// edits find the message themselves and hand it to one function, which makes the tests that are left: the compiler then
-// takes `outer`, `walk` and `inner` in, and no message is built in memory. Whatever is read is read before the first
-// write.
+// byte. Whatever is read is read before the first write.
 #![tactic(auto)]
 
 mod address;
+mod header;
 mod lifetime;
 mod stretch;
 
@@ -18,25 +14,18 @@ ghost use Rattle.std.specs.Prelude.{◌≡◌};
 ghost use Rattle.kept.specs.Edits.{lifetime_of, address_of, stretch_of};
 
 use address::set_side;
-use lifetime::{lower4, lower6};
+use lifetime::lower;
 use stretch::set_within;
 use verdicts::Verdict;
-use wire::{Family, Frame, Part, Walked};
 
-// Lowers the lifetime by one. Spent if it is 0 or 1.
+// Lowers the lifetime by one. Spent if it is 0 or 1. It stands in the header, so the packet need not have a message: a
+// fragment's is lowered too.
 pub fn lower_lifetime(packet: &mut [u8]) -> Verdict
     ensures { (result, packet.new) ≡ lifetime_of packet.old }
 {
-    let frame = wire::outer(packet);
-    match frame {
-        Frame::Refused(v) => v,
-        Frame::Ip(h) => {
-            let family = h.family;
-            match family {
-                Family::Four => lower4(packet),
-                Family::Six => lower6(packet),
-            }
-        }
+    match wire::outer(packet) {
+        Err(v) => v,
+        Ok(h) => lower(packet, h.family),
     }
 }
 
@@ -44,22 +33,9 @@ pub fn lower_lifetime(packet: &mut [u8]) -> Verdict
 pub fn set_address(packet: &mut [u8], side: u32, address: &[u8]) -> Verdict
     ensures { (result, packet.new) ≡ address_of packet.old side address.now }
 {
-    let frame = wire::outer(packet);
-    match frame {
-        Frame::Refused(v) => v,
-        Frame::Ip(h) => {
-            let walked = wire::walk(packet, h);
-            match walked {
-                Walked::Refused(v) => v,
-                Walked::Reached(c) => {
-                    let part = wire::inner(packet, c);
-                    match part {
-                        Part::Refused(v) => v,
-                        Part::Whole(m) => set_side(packet, m, side, address),
-                    }
-                }
-            }
-        }
+    match steps::editable(packet) {
+        Err(v) => v,
+        Ok(m) => set_side(packet, m, side, address),
     }
 }
 
@@ -67,21 +43,8 @@ pub fn set_address(packet: &mut [u8], side: u32, address: &[u8]) -> Verdict
 pub fn set_stretch(packet: &mut [u8], place: usize, bytes: &[u8]) -> Verdict
     ensures { (result, packet.new) ≡ stretch_of packet.old place bytes.now }
 {
-    let frame = wire::outer(packet);
-    match frame {
-        Frame::Refused(v) => v,
-        Frame::Ip(h) => {
-            let walked = wire::walk(packet, h);
-            match walked {
-                Walked::Refused(v) => v,
-                Walked::Reached(c) => {
-                    let part = wire::inner(packet, c);
-                    match part {
-                        Part::Refused(v) => v,
-                        Part::Whole(m) => set_within(packet, m, place, bytes),
-                    }
-                }
-            }
-        }
+    match steps::editable(packet) {
+        Err(v) => v,
+        Ok(m) => set_within(packet, m, place, bytes),
     }
 }

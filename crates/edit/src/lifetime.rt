@@ -1,35 +1,37 @@
 // The lifetime lowered in a packet whose outer shape is right.
-ghost use Rattle.std.specs.Prelude.{◌≡◌, true, false, ◌≤◌, length};
-ghost use Rattle.wire.specs.Outer.{four};
-ghost use Rattle.edit.specs.Rest.{lifetime_in};
+ghost use Rattle.std.specs.Prelude.{◌≡◌, ◌≤◌, length};
+ghost use Rattle.wire.specs.Outer.{family_of};
+ghost use Rattle.edit.specs.Rest.{lifetime_by, lifetime_in};
 
+use crate::header::put_header;
 use steps::raised;
 use verdicts::Verdict;
+use wire::{Family, HEADER_FIELD};
 
-// IPv4's, which the header's sum covers. It is its word's first byte, so low byte first the change is one less.
-pub fn lower4(packet: &mut [u8]) -> Verdict
-    requires { (20 ≤ length packet.old) × (four packet.old ≡ true) }
+// Lowers it. IPv4's is covered by the header's sum, and is its word's first byte, so low byte first the change is one
+// less. IPv6's no sum covers.
+pub fn lower(packet: &mut [u8], family: Family) -> Verdict
+    requires long { 20 ≤ length packet.old }
+    requires family { family ≡ family_of packet.old }
     ensures { (result, packet.new) ≡ lifetime_in packet.old }
 {
-    let lifetime = packet[wire::LIFETIME_4];
+    let at = place(family);
+    let lifetime = packet[at];
     if lifetime < 2 {
         return Verdict::Spent;
     }
-    let field = raised(packet, wire::HEADER_FIELD);
-    packet[wire::LIFETIME_4] = lifetime - 1;
-    writes::put_low(packet, wire::HEADER_FIELD, field);
+    let field = raised(packet, HEADER_FIELD);
+    packet[at] = lifetime - 1;
+    put_header(packet, family, field);
     Verdict::Good
 }
 
-// IPv6's, which no sum covers.
-pub fn lower6(packet: &mut [u8]) -> Verdict
-    requires { (40 ≤ length packet.old) × (four packet.old ≡ false) }
-    ensures { (result, packet.new) ≡ lifetime_in packet.old }
+// Where it stands.
+fn place(family: Family) -> usize
+    ensures { result ≡ lifetime_by family }
 {
-    let lifetime = packet[wire::LIFETIME_6];
-    if lifetime < 2 {
-        return Verdict::Spent;
+    match family {
+        Family::Four => wire::LIFETIME_4,
+        Family::Six => wire::LIFETIME_6,
     }
-    packet[wire::LIFETIME_6] = lifetime - 1;
-    Verdict::Good
 }

@@ -3,21 +3,18 @@ ghost use Rattle.std.specs.Prelude.{◌≡◌, ◌+◌, ◌-◌, ◌≤◌, leng
 ghost use Rattle.wire.specs.Bytes.{put};
 ghost use Rattle.wire.specs.Inner.{start_of, end_of, body_of, Holds};
 ghost use Rattle.kept.specs.Update.{message_after};
-ghost use Rattle.steps.specs.Steps.{unless_missing};
 ghost use Rattle.edit.specs.Rest.{stretch_in};
 
-use steps::{aligned, blanks, change_of, missing, put_message, renewed};
+use steps::{Change, blanks, put_message, renewed};
 use verdicts::Verdict;
-use wire::Message;
+use wire::{Message, Packet};
 
 // Sets bytes in the body of a packet with that message.
+// kept: the writers take bytes and message side by side, since in a type with `Holds` each write would have to show it anew
 pub fn set_within(packet: &mut [u8], m: Message, place: usize, bytes: &[u8]) -> Verdict
     requires { Holds packet.old m }
-    ensures { (result, packet.new) ≡ unless_missing packet.old (stretch_in packet.old place bytes.now) }
+    ensures { (result, packet.new) ≡ stretch_in packet.old place bytes.now }
 {
-    if missing(packet, m) {
-        return Verdict::Missing;
-    }
     let body = m.body;
     let room = m.end - body;
     if room < bytes.len() {
@@ -30,7 +27,7 @@ pub fn set_within(packet: &mut [u8], m: Message, place: usize, bytes: &[u8]) -> 
         return Verdict::Good;
     }
     let at = body + place;
-    if blanks(packet, m, at, bytes) {
+    if blanks(&Packet::new(packet, m), at, bytes) {
         return Verdict::Blank;
     }
     put_stretch(packet, m, at, bytes);
@@ -45,7 +42,7 @@ fn put_stretch(packet: &mut [u8], m: Message, at: usize, bytes: &[u8])
 {
     let end = at + bytes.len();
     let odd = (at - m.start) % 2 == 1;
-    let d = aligned(odd, change_of(&packet[at..end], bytes));
+    let d = Change::of(&packet[at..end], bytes).aligned(odd);
     let message = renewed(packet, m.field, d, m.protocol == wire::UDP);
     let quiet = wire::silent(packet, m);
     writes::put_bytes(packet, at, bytes);

@@ -34,7 +34,7 @@ use Rattle.kept.proofs.Prefix.{side-in, prefix-tells}
 use Rattle.kept.proofs.Single.{made, apply-as}
 
 -- ---- all zeros
-zero-tells : (xs : List ℕ) → Tells (all_zero xs) ((i : ℕ) → i < length xs → byte_at xs i ≡ 0)
+pub zero-tells : (xs : List ℕ) → Tells (all_zero xs) ((i : ℕ) → i < length xs → byte_at xs i ≡ 0)
 zero-tells [] = (λ e i h. absurd (omega arith), λ e n. true≢false e)
 zero-tells (x ∷ xs) =
     as-tells (and-tells (eqb x 0) (all_zero xs) (eqb_tells x 0) (zero-tells xs))

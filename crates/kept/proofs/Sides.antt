@@ -1,12 +1,11 @@
 -- The two sides' places.
-use Prim.Native.Nat.{ℕ, ◌+◌, ◌-◌, ◌*◌, ◌%◌, ◌≤◌}
+use Prim.Native.Nat.{ℕ, ◌+◌, ◌-◌, ◌%◌}
 use mathlib.Core.Path.{◌≡◌, refl}
 use mathlib.Core.List.{List}
-use mathlib.Core.Bool.{true, ◌||◌}
 use native.Mathlib.Omega.{arith}
 use lib.ListN.{length}
 use lib.Dec.{eqb}
-use borrow.Author.Tests.{eq-eqb, eqb-true, eqb-false, not-false}
+use borrow.Author.Tests.{eqb-true, not-false}
 use Rattle.verdicts.specs.Rules.{IsClear}
 use Rattle.verdicts.proofs.Tests.{by_cases}
 use Rattle.wire.specs.Outer.{four, addresses_at, address_size, addresses_length}
@@ -38,17 +37,3 @@ module _ (p : List ℕ) where
   pub side-addressed : (side : ℕ) (new : List ℕ) → IsClear (address_rules p side new) → Addressed p (side_at p side) (length new)
   side-addressed side new c =
       side-fits side (length new) (eqb-true (length new) (address_size p) (not-false (eqb (length new) (address_size p)) c.1.0))
-
--- ---- sides 0 and 1 are known, and their addresses stand one behind the other
-module _ (side : ℕ) (h : side ≤ 1) where
-  pub side-known : (eqb side 0 || eqb side 1) ≡ true
-  side-known =
-      by_cases (eqb side 0)
-      (λ t. simp t)
-      (λ t. let n : ¬ (side ≡ 0) = eqb-false side 0 t in simp (t, eq-eqb side 1 (omega arith)))
-
-  pub side-at : (p : List ℕ) → addresses_at p + address_size p * side ≡ side_at p side
-  side-at p =
-      by_cases (eqb side 0)
-      (λ t. let z = eqb-true side 0 t in simp t (rw z (omega arith)))
-      (λ t. let n : ¬ (side ≡ 0) = eqb-false side 0 t in let z : side ≡ 1 = omega arith in simp t (rw z (omega arith)))

@@ -5,17 +5,13 @@
 // changes no byte. Numbers are read and written low byte first, as in the other edits.
 #![tactic(auto)]
 
-ghost use Rattle.std.specs.Prelude.{◌≡◌, false, ◌+◌, ◌≤◌, length};
-ghost use Rattle.wire.specs.Bytes.{put};
-ghost use Rattle.wire.specs.Outer.{four};
-ghost use Rattle.wire.specs.Inner.{Holds};
+ghost use Rattle.std.specs.Prelude.{◌≡◌, ◌+◌, ◌≤◌, length};
 ghost use Rattle.kept.specs.Prefix.{prefix_of};
-ghost use Rattle.steps.specs.Steps.{unless_missing};
-ghost use Rattle.prefix.specs.Rest.{six_of, prefix_at, prefix_in};
+ghost use Rattle.prefix.specs.Rest.{six_of, prefix_in};
 
-use steps::{change, missing};
+use steps::{Change, Side};
 use verdicts::Verdict;
-use wire::{Frame, Message, Part, Walked};
+use wire::{ADDRESS_6, ADDRESSES_6};
 
 const VERSION: u8 = 6;
 
@@ -34,52 +30,26 @@ pub fn exchange_prefix(packet: &mut [u8], side: u32, expected: &[u8], new: &[u8]
     if packet[0] >> 4 != VERSION {
         return Verdict::Version;
     }
-    let frame = wire::outer(packet);
-    match frame {
-        Frame::Refused(v) => v,
-        Frame::Ip(h) => {
-            let walked = wire::walk(packet, h);
-            match walked {
-                Walked::Refused(v) => v,
-                Walked::Reached(c) => {
-                    let part = wire::inner(packet, c);
-                    match part {
-                        Part::Refused(v) => v,
-                        Part::Whole(m) => exchange(packet, m, side, expected, new),
-                    }
-                }
-            }
-        }
+    match steps::editable(packet) {
+        Err(v) => v,
+        Ok(_) => match Side::try_from(side) {
+            Err(v) => v,
+            Ok(side) => exchange(packet, side.place(ADDRESSES_6, ADDRESS_6), expected, new),
+        },
     }
 }
 
-// The same in an IPv6 packet with that message.
-fn exchange(packet: &mut [u8], m: Message, side: u32, expected: &[u8], new: &[u8]) -> Verdict
-    requires { Holds packet.old m × (four packet.old ≡ false) }
-    ensures { (result, packet.new) ≡ unless_missing packet.old (prefix_in packet.old side expected.now new.now) }
+// The same of the address at a place. Whatever is read is read before the first write.
+fn exchange(packet: &mut [u8], at: usize, expected: &[u8], new: &[u8]) -> Verdict
+    requires { at + 16 ≤ length packet.old }
+    ensures { (result, packet.new) ≡ prefix_in packet.old at expected.now new.now }
 {
-    if missing(packet, m) {
-        return Verdict::Missing;
-    }
-    if side > 1 {
-        return Verdict::Place;
-    }
     if expected.len() != PREFIX {
         return Verdict::Place;
     }
     if new.len() != PREFIX {
         return Verdict::Place;
     }
-    let at = wire::ADDRESSES_6 + wire::ADDRESS_6 * side as usize;
-    exchange_at(packet, at, expected, new)
-}
-
-// The same of the address at a place, by prefixes of six bytes. Whatever is read is read before the first write.
-fn exchange_at(packet: &mut [u8], at: usize, expected: &[u8], new: &[u8]) -> Verdict
-    requires fits { at + 16 ≤ length packet.old }
-    requires sizes { (length expected.now ≡ 6) × (length new.now ≡ 6) }
-    ensures { (result, packet.new) ≡ prefix_at packet.old at expected.now new.now }
-{
     let end = at + 8;
     let address = sums::le8(&packet[at..end], 0);
     if address % WORDS != le6(expected) {
@@ -88,9 +58,9 @@ fn exchange_at(packet: &mut [u8], at: usize, expected: &[u8], new: &[u8]) -> Ver
     if address / WORDS == 65535 {
         return Verdict::Place;
     }
-    let word = change(le6(new), address);
-    put_6(packet, at, new);
-    writes::put_low(packet, at + PREFIX, word);
+    let word = Change::between(le6(new), address);
+    writes::copy::<PREFIX>(packet, at, new, 0);
+    writes::put_low(packet, at + PREFIX, word.by);
     Verdict::Good
 }
 
@@ -99,24 +69,5 @@ fn le6(s: &[u8]) -> u64
     requires { length s.now ≡ 6 }
     ensures { result ≡ six_of s.now }
 {
-    sums::le4(s, 0) + 4294967296 * sums::le2(s, 4)
-}
-
-// Writes a prefix.
-fn put_6(s: &mut [u8], at: usize, new: &[u8])
-    requires { (length new.now ≡ 6) × (at + 6 ≤ length s.old) }
-    ensures { s.new ≡ put s.old at new.now }
-{
-    let a = new[0];
-    let b = new[1];
-    let c = new[2];
-    let d = new[3];
-    let e = new[4];
-    let f = new[5];
-    s[at] = a;
-    s[at + 1] = b;
-    s[at + 2] = c;
-    s[at + 3] = d;
-    s[at + 4] = e;
-    s[at + 5] = f;
+    sums::le4(s, 0) as u64 + 4294967296 * sums::le2(s, 4) as u64
 }

@@ -9,9 +9,11 @@ use lib.Dec.{eqb}
 use borrow.Author.Tests.{eq-eqb}
 use Rattle.verdicts.proofs.Tests.{by_cases}
 use Rattle.wire.specs.Bytes.{part, put, put_word}
-use Rattle.wire.specs.Inner.{protocol_of, body_of, end_of, field_at, start_of}
+use Rattle.wire.specs.Inner.{protocol_of, body_of, end_of, field_at, start_of, Holds}
 use Rattle.wire.proofs.Parts.{part_cut}
+use Rattle.wire.specs.declared.Message.{Message}
 use Rattle.wire.proofs.Facts.{Facts}
+use Rattle.wire.proofs.Held.{known}
 use Rattle.wire.proofs.Writes.{put-wrote, part-below, part-above, part-they}
 use Rattle.kept.specs.Edits.{all_zero, blank}
 
@@ -31,26 +33,22 @@ zero-without p a f e h k l =
     ∙ ap₂ ◌&&◌ (ap all_zero (part-below w a (f - a) (omega arith) (omega arith)))
     (ap all_zero (part_cut q f (f + 2) e (omega arith) k ∙ ap₂ ◌++◌ they (part-above w (f + 2) (e - (f + 2)) (omega arith) (omega arith))))
 
--- where all else is zeros and the old bytes aren't, the new ones decide
-pub new-decides : (a b c d e : Bool) → a ≡ true → b ≡ true → c ≡ true → d ≡ false → e ≡ (a && (b && (c && (d || e))))
-new-decides a b c d e ea eb ec ed = rw (ea, eb, ec, ed)
-
 -- ---- the message around a stretch
 module _ (p : List ℕ) (k : Facts p) (at : ℕ) (new : List ℕ) (low : body_of p ≤ at) (high : at + length new ≤ end_of p) where
   -- what stands before the field, between the field and the stretch, and behind the stretch
-  abbrev pub first_part : Bool
+  abbrev first_part : Bool
   first_part = all_zero (part p (start_of p) (field_at p - start_of p))
 
-  abbrev pub middle-part : Bool
+  abbrev middle-part : Bool
   middle-part = all_zero (part p (field_at p + 2) (at - (field_at p + 2)))
 
-  abbrev pub last-part : Bool
+  abbrev last-part : Bool
   last-part = all_zero (part p (at + length new) (end_of p - (at + length new)))
 
-  abbrev pub old-part : Bool
+  abbrev old-part : Bool
   old-part = all_zero (part p at (at + length new - at))
 
-  pub blank-before : blank p p ≡ (first_part && (middle-part && (old-part && last-part)))
+  blank-before : blank p p ≡ (first_part && (middle-part && (old-part && last-part)))
   unfolding blank
   blank-before =
       let f = field_at p in
@@ -61,7 +59,7 @@ module _ (p : List ℕ) (k : Facts p) (at : ℕ) (new : List ℕ) (low : body_of
       ∙ ap (λ (b : Bool). middle-part && b)
       (ap all_zero (part_cut p at n (end_of p) (omega arith) (omega arith)) ∙ zero-append (part p at (n - at)) (part p n (end_of p - n))))
 
-  pub blank-after : blank p (put p at new) ≡ (first_part && (middle-part && (all_zero new && last-part)))
+  blank-after : blank p (put p at new) ≡ (first_part && (middle-part && (all_zero new && last-part)))
   unfolding blank
   blank-after =
       let f = field_at p in
@@ -79,7 +77,7 @@ module _ (p : List ℕ) (k : Facts p) (at : ℕ) (new : List ℕ) (low : body_of
       ∙ ap₂ ◌&&◌ (ap all_zero they) (ap all_zero (part-above w n (end_of p - n) (omega arith) (omega arith)))))
 
   -- both at once: all else is zeros, and so are the old bytes or the new ones
-  pub blank-either : (blank p p || blank p (put p at new)) ≡ (first_part && (middle-part && (last-part && (old-part || all_zero new))))
+  blank-either : (blank p p || blank p (put p at new)) ≡ (first_part && (middle-part && (last-part && (old-part || all_zero new))))
   blank-either =
       rw (blank-before, blank-after)
       (both first_part middle-part last-part old-part (all_zero new))
@@ -92,6 +90,21 @@ module _ (p : List ℕ) (k : Facts p) (at : ℕ) (new : List ℕ) (low : body_of
       both true true c false true = by_cases c (λ t. simp t) (λ t. simp t)
       both true true c false false = by_cases c (λ t. simp t) (λ t. simp t)
 
-  pub blanks-made : protocol_of p ≡ 1 → (b : Bool) → b ≡ (first_part && (middle-part && (last-part && (old-part || all_zero new))))
+  blanks-made : protocol_of p ≡ 1 → (b : Bool) → b ≡ (first_part && (middle-part && (last-part && (old-part || all_zero new))))
       → b ≡ (eqb (protocol_of p) 1 && (blank p p || blank p (put p at new)))
   blanks-made e b h = h ∙ sym (rw (eq-eqb (protocol_of p) 1 e) blank-either)
+
+-- by the tests of these parts, as far as they are made
+module _ {p : List ℕ} {m : Message} (h : Holds p m) (at : ℕ) (new : List ℕ) (low : body_of p ≤ at) (high : at + length new ≤ end_of p) where
+  blank-by : m.protocol ≡ 1 → (a b c d e : Bool) → a ≡ all_zero (part p m.start (m.field - m.start)) → b ≡ all_zero (part p (m.field + 2) (at - (m.field + 2)))
+      → c ≡ all_zero (part p (at + length new) (m.end - (at + length new))) → d ≡ all_zero (part p at (at + length new - at)) → e ≡ all_zero new
+      → (a && (b && (c && (d || e)))) ≡ (eqb (protocol_of p) 1 && (blank p p || blank p (put p at new)))
+  blank-by i a b c d e ea eb ec ed ee =
+      let k = known h in
+      blanks-made p k.facts at new low high (sym k.protocol ∙ i) _ (rw (ea, eb, ec, ed, ee, k.start, k.field, k.end))
+
+  -- where q is what is lent of p
+  pub blank-read : {q : List ℕ} → q ≡ p → m.protocol ≡ 1 → (a b c d e : Bool) → a ≡ all_zero (part q m.start (m.field - m.start)) → b ≡ all_zero (part q (m.field + 2) (at - (m.field + 2)))
+      → c ≡ all_zero (part q (at + length new) (m.end - (at + length new))) → d ≡ all_zero (part q at (at + length new - at)) → e ≡ all_zero new
+      → (a && (b && (c && (d || e)))) ≡ (eqb (protocol_of p) 1 && (blank p p || blank p (put p at new)))
+  blank-read f i a b c d e ea eb ec ed ee = blank-by i a b c d e (rw f at ea) (rw f at eb) (rw f at ec) (rw f at ed) ee

@@ -66,8 +66,8 @@ module _ (b c d w : ℕ) (hb : b < 256) (hc : c < 256) (hw : w ≤ 65535) (e : (
       total-only (b * 256 + c) m n (omega arith) (swap w % 65535) (omega arith) (omega arith)
 
   pub renewed-udp : 1 ≤ w → Renewed true (b * 256 + c) d w
-  renewed-udp h = record { small = hw; is = λ m n k. as-udp (swap w) _ (omega arith) (omega arith) (less-is m n k) }
+  renewed-udp h = record { is = λ m n k. as-udp (swap w) _ (omega arith) (omega arith) (less-is m n k) }
 
   pub renewed-other : w ≤ 65534 → Renewed false (b * 256 + c) d w
   unfolding sent
-  renewed-other h = record { small = hw; is = λ m n k. as-other w _ h (less-is m n k) }
+  renewed-other h = record { is = λ m n k. as-other w _ h (less-is m n k) }

@@ -1,66 +1,42 @@
 -- The common order of the edits: its answers, and how an edit's own rules go on after it.
-use Prim.Native.Nat.{ℕ}
-use mathlib.Core.Path.{◌≡◌, sym, ap, ◌∙◌}
-use mathlib.Core.Bool.{true, false}
-use mathlib.Core.List.{List, ◌++◌, append_assoc}
+use Rattle.std.specs.Prelude.{◌≡◌, ℕ, List, ◌++◌, Bool, true, false, not, ◌&&◌, Ok, Err}
+use Rattle.std.proofs.Common.{sym, ◌∙◌}
 use Rattle.verdicts.specs.Rules.{Rule, first}
 use Rattle.verdicts.specs.declared.Verdict.{Verdict}
-use Rattle.verdicts.proofs.Rules.{first-append}
-use Rattle.wire.specs.Outer.{family_of, four, outer_of, outer_rules}
-use Rattle.wire.specs.Walk.{walk_rules}
-use Rattle.wire.specs.Inner.{Holds, body_of, end_of, field_at, inner_of, message_rules, protocol_of, start_of, way_of, whole_rules}
-use Rattle.wire.specs.declared.Family.TheVariants.{Four, Six}
-use Rattle.wire.specs.declared.Header.{Header}
-use Rattle.wire.specs.declared.Frame.TheVariants as frame
-use Rattle.wire.specs.declared.Carried.{Carried}
-use Rattle.wire.specs.declared.Walked.TheVariants as way
+use Rattle.verdicts.specs.declared.Verdict.TheVariants.{Missing}
+use Rattle.verdicts.proofs.Rules.{first-append, first-map, first-ok, clear_first, clear_both}
+use Rattle.wire.specs.Outer.{four}
+use Rattle.wire.specs.Inner.{silent_of, message_of, whole_rules, whole_of}
 use Rattle.wire.specs.declared.Message.{Message}
-use Rattle.wire.specs.declared.Part.TheVariants as part
-use Rattle.wire.proofs.Facts.{Facts}
-use Rattle.wire.proofs.Held.{after-outer, after-walk, after-inner, held-facts, is-four, is-six}
+use Rattle.wire.proofs.Held.{answered, by_whole, held_whole}
 use Rattle.judge.specs.Judge.{missing_rule}
 use Rattle.kept.specs.Edits.{edit_rules}
+use Rattle.steps.specs.Steps.{editable_of, Editable}
 
-module _ {A : Type 0} (p : List ℕ) (rest : List Rule) (refuse : Verdict → A) (go : A) where
-  -- the rules in the order in which the code meets them
-  in_order : first (edit_rules p ++ rest) refuse go ≡ first (outer_rules p ++ (walk_rules p ++ (message_rules p ++ (missing_rule p ++ rest)))) refuse go
-  unfolding edit_rules whole_rules
-  in_order = simp append_assoc
+-- ---- what `editable` answers, by what `wire` answers of the packet's shape
+in_order : (p : List ℕ) → editable_of p ≡ answered Err (first (missing_rule p) Err (Ok (message_of p))) (whole_of p)
+unfolding editable_of edit_rules
+in_order p = first-append (whole_rules p) (missing_rule p) Err (Ok (message_of p)) ∙ by_whole p Err _
 
-  pub refused-outer : (v : Verdict) → frame.Refused v ≡ outer_of p → refuse v ≡ first (edit_rules p ++ rest) refuse go
-  refused-outer v e = sym (in_order ∙ simp (after-outer, sym e))
+pub not_whole : (p : List ℕ) (v : Verdict) → Err v ≡ whole_of p → Err v ≡ editable_of p
+not_whole p v e = sym (in_order p ∙ rw (← e))
 
-  module _ (h : Header) (e : frame.Ip h ≡ outer_of p) where
-    pub refused-walk : (v : Verdict) → way.Refused v ≡ way_of p → refuse v ≡ first (edit_rules p ++ rest) refuse go
-    refused-walk v w = sym (in_order ∙ simp (after-outer, sym e, after-walk, sym w))
+module _ (p : List ℕ) (m : Message) (e : Ok m ≡ whole_of p) (b : Bool) (t : b ≡ (silent_of p && not (four p))) where
+  pub is_missing : b ≡ true → Err Missing ≡ editable_of p
+  is_missing x = sym (in_order p ∙ rw (← e, ← t, x))
 
-    module _ (c : Carried) (w : way.Reached c ≡ way_of p) where
-      pub refused-inner : (v : Verdict) → part.Refused v ≡ inner_of p → refuse v ≡ first (edit_rules p ++ rest) refuse go
-      refused-inner v i = sym (in_order ∙ simp (after-outer, sym e, after-walk, sym w, after-inner, sym i))
+  pub is_editable : b ≡ false → Ok m ≡ editable_of p
+  is_editable x = sym (in_order p ∙ rw (← e, ← t, x, ← (held_whole p m e).is))
 
-      pub handed-on : (m : Message) → part.Whole m ≡ inner_of p → first (missing_rule p) refuse (first rest refuse go) ≡ first (edit_rules p ++ rest) refuse go
-      handed-on m i = sym (in_order ∙ simp (after-outer, sym e, after-walk, sym w, after-inner, sym i) (first-append (missing_rule p) rest refuse go))
+-- ---- an edit's rules behind those
+pub by_editable : {A : Type 0} (p : List ℕ) (rest : List Rule) (refuse : Verdict → A) (go : A)
+    → first (edit_rules p ++ rest) refuse go ≡ answered refuse (first rest refuse go) (editable_of p)
+unfolding editable_of
+by_editable p rest r g = first-append (edit_rules p) rest r g ∙ sym (first-map (answered r (first rest r g)) (edit_rules p) Err (Ok (message_of p)))
 
--- ---- the places of a message at hand, as omega reads them, and its family
-pub record Known (p : List ℕ) (m : Message) : Type 0 where
-  pub facts : Facts p
-  pub start : m.start ≡ start_of p
-  pub end : m.end ≡ end_of p
-  pub protocol : m.protocol ≡ protocol_of p
-  pub field : m.field ≡ field_at p
-  pub body : m.body ≡ body_of p
-
-module _ {p : List ℕ} {m : Message} (h : Holds p m) where
-  pub known : Known p m
-  known =
-      let e = h.is in
-      record { facts = held-facts h; start = rw e; end = rw e; protocol = rw e; field = rw e; body = rw e }
-
-  family : m.family ≡ family_of p
-  family = ap (λ (k : Message). k.family) h.is
-
-  pub held-four : m.family ≡ Four → four p ≡ true
-  held-four e = is-four p (sym family ∙ e)
-
-  pub held-six : m.family ≡ Six → four p ≡ false
-  held-six e = is-six p (sym family ∙ e)
+pub held_editable : (p : List ℕ) (m : Message) → Ok m ≡ editable_of p → Editable p m
+unfolding editable_of edit_rules whole_of
+held_editable p m e =
+    let q = first-ok (edit_rules p) e in
+    let c = clear_both (whole_rules p) (missing_rule p) q.1 in
+    record { holds = held_whole p m (rw q.0 (sym (clear_first (whole_rules p) Err (Ok (message_of p)) c.0))); summed = c.1.0 }

@@ -2,3 +2,4 @@
 pub mod Common
 pub mod Changes
 pub mod AllZero
+pub mod Sides

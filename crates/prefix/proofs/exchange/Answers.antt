@@ -1,53 +1,55 @@
--- A refusal, or what `exchange_at` leaves.
-use mathlib.Core.Path.{◌≡◌, ◌∙◌, sym}
-use Prim.Native.Nat.{ℕ}
-use native.Mathlib.Omega.{arith}
-use mathlib.Core.List.{List}
-use Rattle.verdicts.specs.declared.Verdict.{Verdict}
-use Rattle.steps.specs.Steps.{unless_missing}
-use Rattle.steps.proofs.Common.{known}
-use Rattle.prefix.specs.Rest.{prefix_in}
-use Rattle.prefix.proofs.Answers.{other-side, other-expected, other-new, sized}
+-- A refusal, or the new prefix with the word that keeps the class.
+use Rattle.std.proofs.Common.{ap, ◌∙◌, arith, rules}
+use Rattle.std.proofs.Math.Seq.{take_all}
+use Rattle.wire.specs.Bytes.{put}
+use Rattle.prefix.proofs.Answers.{Sized, other-expected, other-new, other-prefix, full, exchanged}
 use Rattle.prefix.proofs.exchange.Goals as goal
 
-pub returns-then-side-gt1 : goal.returns-then-side-gt1
-returns-then-side-gt1 c =
-    let P : List ℕ = c.args.packet.now in
-    let E : List ℕ = c.args.expected.now in
-    let N : List ℕ = c.args.new.now in
-    let Answer : Verdict × List ℕ = prefix_in P c.args.side E N in
-    let present : Answer ≡ unless_missing P Answer = sym (simp (sym c.missing.ensures ∙ c.if-missing.false)) in
-    other-side P c.args.side E N (omega arith) ∙ present
-
 pub returns-then-expected-ne-PREFIX : goal.returns-then-expected-ne-PREFIX
-returns-then-expected-ne-PREFIX c =
-    let P : List ℕ = c.args.packet.now in
-    let E : List ℕ = c.args.expected.now in
-    let N : List ℕ = c.args.new.now in
-    let Answer : Verdict × List ℕ = prefix_in P c.args.side E N in
-    let present : Answer ≡ unless_missing P Answer = sym (simp (sym c.missing.ensures ∙ c.if-missing.false)) in
-    other-expected P c.args.side E N (omega arith) c.if-expected-ne-PREFIX.true ∙ present
+returns-then-expected-ne-PREFIX c = other-expected _ _ _ _ c.if-expected-ne-PREFIX.true
 
 pub returns-then-new-ne-PREFIX : goal.returns-then-new-ne-PREFIX
-returns-then-new-ne-PREFIX c =
-    let P : List ℕ = c.args.packet.now in
-    let E : List ℕ = c.args.expected.now in
-    let N : List ℕ = c.args.new.now in
-    let Answer : Verdict × List ℕ = prefix_in P c.args.side E N in
-    let present : Answer ≡ unless_missing P Answer = sym (simp (sym c.missing.ensures ∙ c.if-missing.false)) in
-    other-new P c.args.side E N (omega arith) c.if-expected-ne-PREFIX.false c.if-new-ne-PREFIX.true ∙ present
+returns-then-new-ne-PREFIX c = other-new _ _ _ _ c.if-expected-ne-PREFIX.false c.if-new-ne-PREFIX.true
 
--- both addresses stand in the header
-pub exchange_at-requires : goal.exchange_at-requires
-exchange_at-requires c =
-    let k = (known c.requires.0).facts.outer in
-    record { fits = omega (arith, (k.six c.requires.1).0); sizes = (c.if-expected-ne-PREFIX.false, c.if-new-ne-PREFIX.false) }
+pub returns-then-address-le6 : goal.returns-then-address-le6
+returns-then-address-le6 c =
+    let a = c.args in
+    let k : Sized a.packet.now a.at a.expected.now a.new.now c.le8-address.result c.le6.result = record {
+      bytes = λ i. search rules;
+      these = λ i. omega (arith, c.type_inv.expected i);
+      fits = c.requires;
+      old = c.if-expected-ne-PREFIX.false;
+      six = c.if-new-ne-PREFIX.false;
+      address = c.le8-address.ensures;
+      number = c.le6.ensures;
+    } in
+    other-prefix k c.if-address-le6.true
+
+pub returns-then-address-eq65535 : goal.returns-then-address-eq65535
+returns-then-address-eq65535 c =
+    let a = c.args in
+    let k : Sized a.packet.now a.at a.expected.now a.new.now c.le8-address.result c.le6.result = record {
+      bytes = λ i. search rules;
+      these = λ i. omega (arith, c.type_inv.expected i);
+      fits = c.requires;
+      old = c.if-expected-ne-PREFIX.false;
+      six = c.if-new-ne-PREFIX.false;
+      address = c.le8-address.ensures;
+      number = c.le6.ensures;
+    } in
+    full k c.if-address-le6.false c.if-address-eq65535.true
 
 pub returns : goal.returns
 returns c =
-    let P : List ℕ = c.args.packet.now in
-    let E : List ℕ = c.args.expected.now in
-    let N : List ℕ = c.args.new.now in
-    let Answer : Verdict × List ℕ = prefix_in P c.args.side E N in
-    let present : Answer ≡ unless_missing P Answer = sym (simp (sym c.missing.ensures ∙ c.if-missing.false)) in
-    c.exchange_at.ensures ∙ sized P c.args.side E N (omega arith) c.if-expected-ne-PREFIX.false c.requires.1 c.if-new-ne-PREFIX.false ∙ present
+    let a = c.args in
+    let k : Sized a.packet.now a.at a.expected.now a.new.now c.le8-address.result c.le6.result = record {
+      bytes = λ i. search rules;
+      these = λ i. omega (arith, c.type_inv.expected i);
+      fits = c.requires;
+      old = c.if-expected-ne-PREFIX.false;
+      six = c.if-new-ne-PREFIX.false;
+      address = c.le8-address.ensures;
+      number = c.le6.ensures;
+    } in
+    exchanged k c.if-address-le6.false c.if-address-eq65535.false _ _ c.le6-2.ensures c.between-word.result.reduced c.between-word.ensures
+    _ _ (c.copy.ensures ∙ ap (put a.packet.now a.at) (take_all 6 a.new.now (omega (arith, c.if-new-ne-PREFIX.false)))) c.put_low.ensures

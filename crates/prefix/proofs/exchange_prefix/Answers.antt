@@ -1,17 +1,12 @@
--- A refusal of the version or of the packet's shape, or what `exchange` leaves.
-use mathlib.Core.Path.{◌≡◌, ◌∙◌, sym}
-use Prim.Native.Nat.{ℕ}
-use mathlib.Core.List.{List, ◌++◌}
-use Rattle.verdicts.specs.Rules.{first}
-use Rattle.verdicts.specs.declared.Verdict.TheVariants.{Good}
-use Rattle.wire.specs.Outer.{version_of, outer_of}
-use Rattle.wire.specs.Inner.{way_of}
-use Rattle.wire.specs.declared.Frame.TheVariants.{Ip}
-use Rattle.wire.specs.declared.Walked.TheVariants.{Reached}
-use Rattle.wire.proofs.Held.{headed, held_inner}
-use Rattle.kept.specs.Edits.{edit_rules, side_at}
-use Rattle.kept.specs.Prefix.{prefix_rules, prefix_left, prefix_of}
-use Rattle.steps.proofs.Common.{refused-outer, refused-walk, refused-inner, handed-on}
+-- A refusal of the version, of all edits or of the side, or what `exchange` leaves.
+use Rattle.std.proofs.Common.{◌≡◌, ℕ, false, sym, ap, ◌∙◌, arith}
+use Rattle.wire.specs.Outer.{four}
+use Rattle.wire.proofs.Held.{held-facts}
+use Rattle.kept.specs.Edits.{side_at}
+use Rattle.steps.specs.Sides.{placed}
+use Rattle.steps.proofs.Common.{by_editable, held_editable}
+use Rattle.steps.proofs.Sides.{by_editable_side, side-placed, side-addressed}
+use Rattle.prefix.specs.Rest.{prefix_in}
 use Rattle.prefix.proofs.Answers.{none, other-version, past-version}
 use Rattle.prefix.proofs.exchange_prefix.Goals as goal
 
@@ -21,59 +16,30 @@ returns-then-packet-eq0 c = none _ _ _ _ c.if-packet-eq0.true
 pub returns-then-packet-ne-VERSION : goal.returns-then-packet-ne-VERSION
 returns-then-packet-ne-VERSION c = other-version _ _ _ _ c.if-packet-eq0.false c.if-packet-ne-VERSION.true
 
-pub walk-walked-requires : goal.walk-walked-requires
-walk-walked-requires c =
-    let P : List ℕ = c.args.packet.now in
-    let ip : Ip c.in-Ip.h ≡ outer_of P = sym c.in-Ip.is ∙ c.outer-frame.ensures in
-    ip
+pub returns-in-Err : goal.returns-in-Err
+returns-in-Err c =
+    sym (by_editable _ _ _ _ ∙ rw (← c.editable.ensures, c.in-Err.is)) ∙ past-version _ _ _ _ c.if-packet-eq0.false c.if-packet-ne-VERSION.false
 
-pub inner-part-requires : goal.inner-part-requires
-inner-part-requires c =
-    let P : List ℕ = c.args.packet.now in
-    let ip : Ip c.in-Ip.h ≡ outer_of P = sym c.in-Ip.is ∙ c.outer-frame.ensures in
-    let carried : Reached c.in-Reached.c ≡ way_of P = sym c.in-Reached.is ∙ c.walk-walked.ensures in
-    ((headed _ _ ip).outer, carried)
+pub returns-in-Err-try_from : goal.returns-in-Err-try_from
+returns-in-Err-try_from c =
+    sym (by_editable_side _ _ _ _ _ _ _ c.editable.ensures c.try_from.ensures ∙ rw (c.in-Ok.is, c.in-Err-try_from.is))
+    ∙ past-version _ _ _ _ c.if-packet-eq0.false c.if-packet-ne-VERSION.false
 
+-- both addresses stand in the header
 pub exchange-requires : goal.exchange-requires
 exchange-requires c =
-    let P : List ℕ = c.args.packet.now in
-    let version : version_of P ≡ 6 = c.if-packet-ne-VERSION.false in
-    let ip : Ip c.in-Ip.h ≡ outer_of P = sym c.in-Ip.is ∙ c.outer-frame.ensures in
-    (held_inner _ _ _ ip (sym c.in-Whole.is ∙ c.inner-part.ensures), rw version)
+    let p = c.args.packet.now in
+    let f : four p ≡ false = rw c.if-packet-ne-VERSION.false in
+    let k = (held-facts (held_editable p _ (sym c.in-Ok.is ∙ c.editable.ensures)).holds).outer in
+    let r = side-addressed p c.in-Ok-try_from.side 8 16 (simp f) (simp f) in
+    omega (arith, c.place.ensures)
 
-pub returns-in-Refused : goal.returns-in-Refused
-returns-in-Refused c =
-    let P : List ℕ = c.args.packet.now in
-    let version : version_of P ≡ 6 = c.if-packet-ne-VERSION.false in
-    let past : (first (edit_rules P ++ prefix_rules P c.args.side c.args.expected.now c.args.new.now) (λ v. (v, P)) (Good, prefix_left P (side_at P c.args.side) c.args.new.now)
-    ≡ prefix_of P c.args.side c.args.expected.now c.args.new.now) = past-version P c.args.side c.args.expected.now c.args.new.now c.if-packet-eq0.false version in
-    refused-outer _ _ _ _ _ (sym c.in-Refused.is ∙ c.outer-frame.ensures) ∙ past
-
-pub returns-in-Refused-walked : goal.returns-in-Refused-walked
-returns-in-Refused-walked c =
-    let P : List ℕ = c.args.packet.now in
-    let version : version_of P ≡ 6 = c.if-packet-ne-VERSION.false in
-    let past : (first (edit_rules P ++ prefix_rules P c.args.side c.args.expected.now c.args.new.now) (λ v. (v, P)) (Good, prefix_left P (side_at P c.args.side) c.args.new.now)
-    ≡ prefix_of P c.args.side c.args.expected.now c.args.new.now) = past-version P c.args.side c.args.expected.now c.args.new.now c.if-packet-eq0.false version in
-    let ip : Ip c.in-Ip.h ≡ outer_of P = sym c.in-Ip.is ∙ c.outer-frame.ensures in
-    refused-walk _ _ _ _ _ ip _ (sym c.in-Refused-walked.is ∙ c.walk-walked.ensures) ∙ past
-
-pub returns-in-Refused-part : goal.returns-in-Refused-part
-returns-in-Refused-part c =
-    let P : List ℕ = c.args.packet.now in
-    let version : version_of P ≡ 6 = c.if-packet-ne-VERSION.false in
-    let past : (first (edit_rules P ++ prefix_rules P c.args.side c.args.expected.now c.args.new.now) (λ v. (v, P)) (Good, prefix_left P (side_at P c.args.side) c.args.new.now)
-    ≡ prefix_of P c.args.side c.args.expected.now c.args.new.now) = past-version P c.args.side c.args.expected.now c.args.new.now c.if-packet-eq0.false version in
-    let ip : Ip c.in-Ip.h ≡ outer_of P = sym c.in-Ip.is ∙ c.outer-frame.ensures in
-    let carried : Reached c.in-Reached.c ≡ way_of P = sym c.in-Reached.is ∙ c.walk-walked.ensures in
-    refused-inner _ _ _ _ _ ip _ carried _ (sym c.in-Refused-part.is ∙ c.inner-part.ensures) ∙ past
-
-pub returns-in-Whole : goal.returns-in-Whole
-returns-in-Whole c =
-    let P : List ℕ = c.args.packet.now in
-    let version : version_of P ≡ 6 = c.if-packet-ne-VERSION.false in
-    let past : (first (edit_rules P ++ prefix_rules P c.args.side c.args.expected.now c.args.new.now) (λ v. (v, P)) (Good, prefix_left P (side_at P c.args.side) c.args.new.now)
-    ≡ prefix_of P c.args.side c.args.expected.now c.args.new.now) = past-version P c.args.side c.args.expected.now c.args.new.now c.if-packet-eq0.false version in
-    let ip : Ip c.in-Ip.h ≡ outer_of P = sym c.in-Ip.is ∙ c.outer-frame.ensures in
-    let carried : Reached c.in-Reached.c ≡ way_of P = sym c.in-Reached.is ∙ c.walk-walked.ensures in
-    c.exchange.ensures ∙ handed-on _ _ _ _ _ ip _ carried _ (sym c.in-Whole.is ∙ c.inner-part.ensures) ∙ past
+pub returns-in-Ok-try_from : goal.returns-in-Ok-try_from
+returns-in-Ok-try_from c =
+    let a = c.args in
+    let f : four a.packet.now ≡ false = rw c.if-packet-ne-VERSION.false in
+    let at : placed c.in-Ok-try_from.side 8 16 ≡ side_at a.packet.now a.side = simp f (simp f at (side-placed a.packet.now _ _ (sym c.in-Ok-try_from.is ∙ c.try_from.ensures))) in
+    c.exchange.ensures
+    ∙ ap (λ (n : ℕ). prefix_in a.packet.now n a.expected.now a.new.now) (c.place.ensures ∙ at)
+    ∙ sym (by_editable_side _ _ _ _ _ _ _ c.editable.ensures c.try_from.ensures ∙ rw (c.in-Ok.is, c.in-Ok-try_from.is))
+    ∙ past-version _ _ _ _ c.if-packet-eq0.false c.if-packet-ne-VERSION.false

@@ -1,31 +1,18 @@
--- The invariant: what is left is all zeros exactly when the whole is.
-use Prim.Native.Nat.{◌+◌, ◌≤◌}
-use mathlib.Core.Path.{◌≡◌, ◌∙◌, refl, sym, ap}
-use native.Mathlib.Omega.{arith}
-use native.Mathlib.Numerals.{add-one}
-use borrow.Author.Tests.{eq-eqb, ne_eqb}
-use lib.ListN.{length, drop, drop_of_length-le}
-use lib.Seq.{drop-cons}
+-- All are zeros, or one isn't.
+use Rattle.std.proofs.Common.{◌≡◌, ◌≢◌, ℕ, ◌<◌, Bool, true, false, List, length, sym, arith, rules}
+use Rattle.std.specs.Prelude.{MatchBool}
+use Rattle.std.proofs.lemmas.Iterator.{cases_from_all, YieldsList-from_slice}
+use borrow.Author.Tests.{tests}
+use Rattle.std.specs.List.{AllWithin, HoldsAt}
+use Rattle.verdicts.proofs.Tests.{by_cases}
 use Rattle.kept.specs.Edits.{all_zero}
+use Rattle.kept.proofs.Exactly.{zero-tells}
 use Rattle.steps.proofs.blank.zeros.Goals as goal
 
-pub loop-i-init : goal.loop-i-init
-loop-i-init c = (omega arith, refl)
-
-pub returns-then-bytes-i-ne0 : goal.returns-then-bytes-i-ne0
-returns-then-bytes-i-ne0 c =
-    let s = c.args.bytes.now in
-    sym (sym c.loop-i.invariant.1 ∙ rw (drop-cons s c.loop-i.i 0 (omega arith)) (simp (ne_eqb _ 0 c.if-bytes-i-ne0.true)))
-
-pub loop-i-preserved : goal.loop-i-preserved
-loop-i-preserved c =
-    let s = c.args.bytes.now in
-    let e : all_zero (drop c.loop-i.i s) ≡ all_zero (drop (c.loop-i.i + 1) s) =
-    rw (add-one, drop-cons s c.loop-i.i 0 (omega arith)) (simp (eq-eqb _ 0 c.if-bytes-i-ne0.false)) in
-    (omega arith, sym e ∙ c.loop-i.invariant.1)
+told : (xs : List ℕ) (r : Bool) → MatchBool r (AllWithin (λ x. x ≡ 0) xs 0 (length xs)) ((k : ℕ) × (k < length xs) × HoldsAt (λ x. x ≢ 0) xs k) → r ≡ all_zero xs
+told xs true h = by_cases (all_zero xs) (λ t. sym t) (λ f. absurd ((zero-tells xs).1 f (λ i l. h i 0 (omega arith) l)))
+told xs false h = by_cases (all_zero xs) (λ t. absurd (h.2 0 ((zero-tells xs).0 t h.0 h.1))) (λ f. sym f)
 
 pub returns : goal.returns
 returns c =
-    let s = c.args.bytes.now in
-    let e : length s ≤ c.loop-i.i = omega arith in
-    sym (ap all_zero (drop_of_length-le s e)) ∙ c.loop-i.invariant.1
+    told _ _ (cases_from_all _ _ _ (λ x. x ≡ 0) (λ x. x ≢ 0) c.all.ensures.ran (YieldsList-from_slice c.args.bytes.now cc) (λ x q k. search (rules, tests)) (λ x q k. search (rules, tests)))

@@ -10,7 +10,7 @@ unfolding two_at
 returns-then-f-lt65534 c =
     let k = c.type_inv.packet in
     let a = c.args in
-    let e = c.le2-f.ensures.0 in
+    let e = c.le2-f.ensures in
     let l = c.if-f-lt65534.true in
     renewed-other _ _ _ _ (omega (arith, k a.at)) (omega (arith, k (a.at + 1))) (omega arith) (omega arith) (omega arith)
 
