@@ -1,35 +1,25 @@
 -- Laws of a capture's head.
-use mathlib.Core.Path.{◌≡◌, refl, sym, ◌∙◌}
-use Prim.Native.Nat.{ℕ, ◌≤◌, ◌<◌}
-use native.Mathlib.Omega.{arith}
-use mathlib.Core.List.{List, [], ◌∷◌}
-use mathlib.Core.Bool.{true, false, not}
-use lib.ListN.{length, take, drop, length-take}
-use lib.Seq.{get_or-take}
-use lib.Dec.{ltb, eqb}
+use Rattle.std.proofs.Common.{◌≡◌, refl, sym, ◌∙◌, ℕ, ◌≤◌, arith, List, [], ◌∷◌, false, not, length, take, drop, length-take, get_or-take}
+use Rattle.std.specs.Prelude.{ltb, eqb}
+use Rattle.std.specs.Cmp.Lexicographic.{pointwise}
+use Rattle.std.proofs.Math.Bool.{true≢false}
 use borrow.Author.Tests.{le-ltb, lt-ltb, eq-eqb, ne_eqb, ltb-true, ltb-false, eqb-true, not-false}
 use Rattle.verdicts.proofs.Tests.{by_cases, or-false, and-true}
 use Rattle.wire.specs.Bytes.{byte_at, Bytes, word_at}
 use Rattle.capture.specs.Records.{capture_head, other_mark, other_edition, capture_of}
 
--- ---- each answer to the mark, from the facts that lead to it
-module _ (c : List ℕ) where
-  pub mark-short : length c < 3 → true ≡ other_mark c
-  unfolding other_mark
-  mark-short h = simp (lt-ltb (length c) 3 h)
+-- ---- a capture that doesn't begin with the mark
+twisted : (m n : ℕ) → eqb m n ≡ eqb n m
+twisted m n = by_cases (eqb n m) (λ b. eq-eqb m n (sym (eqb-true n m b)) ∙ sym b) (λ b. ne_eqb m n (λ e. true≢false (sym (eq-eqb n m (sym e)) ∙ b)) ∙ sym b)
 
-  module _ (long : 3 ≤ length c) where
-    pub mark-first : (byte_at c 0 ≡ 0x47 → ⊥) → true ≡ other_mark c
-    unfolding other_mark
-    mark-first n = simp (le-ltb (length c) 3 long, ne_eqb (byte_at c 0) 0x47 n)
-
-    pub mark-second : byte_at c 0 ≡ 0x47 → (byte_at c 1 ≡ 0x4C → ⊥) → true ≡ other_mark c
-    unfolding other_mark
-    mark-second e n = simp (le-ltb (length c) 3 long, eq-eqb (byte_at c 0) 0x47 e, ne_eqb (byte_at c 1) 0x4C n)
-
-    pub mark-third : byte_at c 0 ≡ 0x47 → byte_at c 1 ≡ 0x4C → not (eqb (byte_at c 2) 0x52) ≡ other_mark c
-    unfolding other_mark
-    mark-third e d = simp (le-ltb (length c) 3 long, eq-eqb (byte_at c 0) 0x47 e, eq-eqb (byte_at c 1) 0x4C d)
+pub mark_begins : (c : List ℕ) → not (pointwise eqb (0x47 ∷ 0x4C ∷ 0x52 ∷ []) (take 3 c)) ≡ other_mark c
+unfolding other_mark
+mark_begins [] = refl
+mark_begins (x ∷ []) = by_cases (eqb 0x47 x) (λ b. simp b) (λ b. simp b)
+mark_begins (x ∷ y ∷ []) = by_cases (eqb 0x47 x) (λ b. by_cases (eqb 0x4C y) (λ e. simp (b, e)) (λ e. simp (b, e))) (λ b. simp b)
+mark_begins (x ∷ y ∷ z ∷ xs) =
+    let long = le-ltb (length (x ∷ y ∷ z ∷ xs)) 3 (omega arith) in
+    rw (long, twisted 0x47 x, twisted 0x4C y, twisted 0x52 z) (by_cases (eqb z 0x52) (λ b. simp b) (λ b. simp b))
 
 -- ---- the head of a layout
 pub mark-laid : (ps : List (List ℕ)) → other_mark (capture_of ps) ≡ false
@@ -49,9 +39,9 @@ five (p ∷ q ∷ r ∷ s ∷ []) h = absurd (omega arith)
 five (p ∷ q ∷ r ∷ s ∷ t ∷ xs) h = refl
 
 -- a capture whose edition isn't refused has its whole head
-pub edition-long : (c : List ℕ) → other_edition c ≡ false → capture_head ≤ length c
+pub edition_long : (c : List ℕ) → other_edition c ≡ false → capture_head ≤ length c
 unfolding other_edition
-edition-long c e = ltb-false (length c) capture_head (or-false (ltb (length c) capture_head) _ e).0
+edition_long c e = ltb-false (length c) capture_head (or-false (ltb (length c) capture_head) _ e).0
 
 -- a head that isn't refused is the mark and version 1
 pub head-laid : (c : List ℕ) → Bytes c → other_mark c ≡ false → other_edition c ≡ false → c ≡ 0x47 ∷ 0x4C ∷ 0x52 ∷ 0x00 ∷ 0x01 ∷ drop capture_head c
@@ -66,7 +56,7 @@ head-laid c b m e =
     let r = eqb-true (byte_at c 2) 0x52 rest.1 in
     let s : byte_at c 3 ≡ 0 = omega (arith, b 3, b 4) in
     let t : byte_at c 4 ≡ 1 = omega (arith, b 3, b 4) in
-    five c (edition-long c e) ∙ (cc)
+    five c (edition_long c e) ∙ (cc)
 
 -- ---- the head alone tells as much as the whole
 same_test : (c : List ℕ) (n : ℕ) → n ≤ capture_head → ltb (length (take capture_head c)) n ≡ ltb (length c) n

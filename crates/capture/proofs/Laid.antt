@@ -1,22 +1,18 @@
 -- Reading what was laid out gives the packets back, and an undamaged capture is the layout of its records.
-use mathlib.Core.Path.{◌≡◌, refl, sym, ap, ap₂, ◌∙◌}
-use Prim.Native.Nat.{ℕ, ◌+◌, ◌/◌, ◌%◌, ◌≤◌}
-use native.Mathlib.Omega.{arith}
-use mathlib.Core.List.{List, [], ◌∷◌}
-use mathlib.Core.Bool.{false, true≢false}
-use lib.ListN.{length, drop, length-append, length-take, length-drop, take-append-drop, drop_of_length-le}
-use lib.Seq.{take-append_seam, drop-append_seam, drop-drop, get_or-drop, length-take-le}
+use Rattle.std.specs.Prelude.{Some, Ok}
+use Rattle.std.proofs.Common.{◌≡◌, refl, sym, ap, ap₂, ◌∙◌, ℕ, ◌+◌, ◌/◌, ◌%◌, ◌≤◌, arith, List, [], ◌∷◌, false, length, drop, length-append, length-take, length-drop, take-append-drop, drop_of_length-le, drop-drop, get_or-drop, length-take-le}
+use Rattle.std.proofs.Math.Seq.{take-append_seam, drop-append_seam}
+use Rattle.std.proofs.Math.Bool.{true≢false}
 use Rattle.wire.specs.Bytes.{Bytes}
 use Rattle.capture.specs.Records.{record_head, most, front_of, packet, behind, ◌before◌, read_of, laid, Small}
-use Rattle.capture.specs.declared.Head.TheVariants.{Packet}
-use Rattle.capture.proofs.Reading.{Headed, head-packet, front-none, front-whole, read_step, by-reading}
+use Rattle.capture.proofs.Reading.{Headed, head-packet, front-none, front_whole, read_step, by-reading}
 
 -- ---- laid out, then read
-laid-front : (p : List ℕ) (ps : List (List ℕ)) → length p ≤ most → front_of (laid (p ∷ ps)) ≡ Packet (length p)
+laid-front : (p : List ℕ) (ps : List (List ℕ)) → length p ≤ most → front_of (laid (p ∷ ps)) ≡ Ok (Some (length p))
 unfolding laid
 laid-front p ps h =
     let xs = laid (p ∷ ps) in
-    front-whole xs (length p) (head-packet xs (omega arith) (length p) (omega arith) h) (omega (arith, length-append p (laid ps)))
+    front_whole xs (length p) (head-packet xs (omega arith) (length p) (omega arith) h) (omega (arith, length-append p (laid ps)))
 
 -- reading what was laid out gives the packets back, and no damage
 pub read-laid : (ps : List (List ℕ)) → Small ps → read_of (laid ps) ≡ record { packets = ps; broken = false }

@@ -4,5 +4,4 @@ pub mod Heads
 pub mod Laid
 pub mod Places
 pub mod Passes
-pub mod Answers
 pub mod Exact

@@ -1,49 +1,66 @@
--- What `record_at` answers tells of the records from a place on.
-use mathlib.Core.Path.{◌≡◌, refl, ap, ◌∙◌}
-use Prim.Native.Nat.{ℕ, ◌+◌, ◌-◌, ◌≤◌}
-use native.Mathlib.Omega.{arith}
-use mathlib.Core.List.{List, []}
-use lib.ListN.{length, take, drop, length-drop}
-use lib.Seq.{drop-drop}
-use Rattle.capture.specs.Records.{record_head, front_of, Records, none, ruin, ◌before◌, read_of, placed, record_at}
-use Rattle.capture.specs.declared.Found.{Found}
-use Rattle.capture.specs.declared.Found.TheVariants.{Record, End, Damaged}
-use Rattle.capture.specs.declared.Head.{Head}
-use Rattle.capture.specs.declared.Head.TheVariants as head
-use Rattle.capture.proofs.Reading.{Begins, begins, read_step}
+-- What stands first in some bytes tells of the records that are left.
+use Rattle.std.proofs.Common.{◌≡◌, refl, sym, ap, ◌∙◌, ℕ, ◌+◌, ◌-◌, ◌≤◌, arith, List, [], ◌∷◌, length, take, drop, length-drop, take_all}
+use Rattle.std.specs.Prelude.{Option, Some, None, Result, Ok, Err}
+use Rattle.std.specs.declared.ops.Range.{Range}
+use Rattle.capture.specs.Records.{record_head, Head, front_of, behind, placed, ◌before◌, Records, none, ruin, read_of, record_at}
+use Rattle.capture.specs.Judged.{listed}
+use Rattle.capture.specs.declared.Damaged.{Damaged}
+use Rattle.capture.proofs.Reading.{Begins, begins, front-none, read_step}
 
--- the record at a place lies within the capture, and reading goes on behind it
-pub record Passed (c : List ℕ) (at start end : ℕ) : Type 0 where
-  pub after : start ≡ at + record_head
+-- ---- the list of what is left
+pub listed-none : listed none ≡ []
+unfolding listed
+listed-none = refl
+
+pub listed-ruin : (d : Damaged) → listed ruin ≡ Err d ∷ []
+unfolding listed
+listed-ruin d = refl
+
+pub listed-before : (p : List ℕ) (r : Records) → listed (p before r) ≡ Ok p ∷ listed r
+unfolding listed
+listed-before p r = refl
+
+-- a packet within the bytes is the first, and reading goes on behind it
+pub record Passed (xs : List ℕ) (start end : ℕ) : Type 0 where
   pub order : start ≤ end
-  pub within : end ≤ length c
-  pub reads : read_of (drop at c) ≡ take (end - start) (drop start c) before read_of (drop end c)
+  pub within : end ≤ length xs
+  pub reads : listed (read_of xs) ≡ Ok (take (end - start) (drop start xs)) ∷ listed (read_of (take (length xs - end) (drop end xs)))
 
 -- what each answer tells
-abbrev pub Past : List ℕ → ℕ → Found → Type 0
-Past c at (Record start end) = Passed c at start end
-Past c at End = read_of (drop at c) ≡ none
-Past c at Damaged = read_of (drop at c) ≡ ruin
+abbrev pub Past : List ℕ → Result (Option (Range ℕ)) Damaged → Type 0
+Past xs (Ok None) = listed (read_of xs) ≡ []
+Past xs (Ok (Some r)) = Passed xs r.start r.end
+Past xs (Err d) = listed (read_of xs) ≡ Err d ∷ []
 
-past : (c : List ℕ) (at : ℕ) (f : Head) → Begins (drop at c) f → front_of (drop at c) ≡ f → Past c at (placed at f)
-past c at head.End z e = read_step (drop at c) ∙ rw e
-past c at head.Damaged d e = read_step (drop at c) ∙ rw e
-past c at (head.Packet n) w e =
-    let size : at + record_head + n - (at + record_head) ≡ n = omega arith in
-    let next : at + record_head + n ≡ at + (record_head + n) = omega arith in
+past : (xs : List ℕ) (f : Head) → Begins xs f → front_of xs ≡ f → Past xs (placed 0 f)
+past xs (Ok None) z e = ap listed (read_step xs ∙ rw e) ∙ listed-none
+past xs (Err d) g e = ap listed (read_step xs ∙ rw e) ∙ listed-ruin d
+past xs (Ok (Some n)) w e =
+    let size : record_head + n - record_head ≡ n = omega arith in
+    let all : take (length xs - (record_head + n)) (behind xs n) ≡ behind xs n = take_all _ _ (rw length-drop (omega arith)) in
     record {
-      after = refl;
       order = omega arith;
-      within = omega (arith, length-drop at c);
-      reads = read_step (drop at c) ∙ rw (e, size, next) (simp drop-drop);
+      within = w.1;
+      reads = ap listed (read_step xs ∙ rw (e, size, all) refl) ∙ listed-before _ _;
     }
 
-pub past-here : (c : List ℕ) (at : ℕ) (found : Found) → found ≡ record_at c at → Past c at found
+past-first : (xs : List ℕ) (found : Result (Option (Range ℕ)) Damaged) → record_at xs 0 ≡ found → Past xs found
 unfolding record_at
-past-here c at found e = rw e (past c at (front_of (drop at c)) (begins (drop at c)) refl)
+past-first xs found e = rw e at (past xs (front_of xs) (begins xs) refl)
 
--- where no record is found, none is left
-pub none_left : (c : List ℕ) (at : ℕ) (found : Found) → Past c at found → ((start end : ℕ) → found ≡ Record start end → ⊥) → (read_of (drop at c)).packets ≡ []
-none_left c at (Record start end) p n = absurd (n start end refl)
-none_left c at End e n = ap (λ (r : Records). r.packets) e
-none_left c at Damaged e n = ap (λ (r : Records). r.packets) e
+module _ (xs : List ℕ) where
+  pub first_end : record_at xs 0 ≡ Ok None → listed (read_of xs) ≡ []
+  first_end e = past-first xs (Ok None) e
+
+  module _ (r : Range ℕ) (e : record_at xs 0 ≡ Ok (Some r)) where
+    pub first_order : r.start ≤ r.end
+    first_order = (past-first xs (Ok (Some r)) e).order
+
+    pub first_within : r.end ≤ length xs
+    first_within = (past-first xs (Ok (Some r)) e).within
+
+    pub first_packet : listed (read_of xs) ≡ Ok (take (r.end - r.start) (drop r.start xs)) ∷ listed (read_of (take (length xs - r.end) (drop r.end xs)))
+    first_packet = (past-first xs (Ok (Some r)) e).reads
+
+  pub first_damage : (d : Damaged) → record_at xs 0 ≡ Err d → listed (read_of xs) ≡ Err d ∷ listed (read_of [])
+  first_damage d e = past-first xs (Err d) e ∙ ap (λ ys. Err d ∷ ys) (sym (ap listed (read_step [] ∙ rw (front-none [] refl)) ∙ listed-none))

@@ -1,49 +1,35 @@
 -- Laws of reading: what a record's head says, what some bytes begin with, and the records one after the other.
-use mathlib.Core.Path.{◌≡◌, refl, ap, ◌∙◌}
-use Prim.Native.Nat.{ℕ, zero, suc, ◌+◌, ◌≤◌, ◌<◌}
-use native.Mathlib.Omega.{arith}
-use mathlib.Core.List.{List, [], ◌∷◌}
-use lib.ListN.{length, take, length-drop}
-use lib.Dec.{ltb, eqb}
-use borrow.Author.Tests.{lt-ltb, le-ltb, eq-eqb, ne_eqb, ltb-true, ltb-false, eqb-true}
+use Rattle.std.proofs.Common.{◌≡◌, refl, ap, ◌∙◌, ℕ, zero, suc, ◌+◌, ◌-◌, ◌≤◌, ◌<◌, arith, add-zero, List, [], ◌∷◌, length, take, drop, length-drop, get_or-drop}
+use Rattle.std.specs.Prelude.{ltb, eqb, Some, None, Ok, Err}
+use borrow.Author.Tests.{le-ltb, eq-eqb, ne_eqb, ltb-true, ltb-false, eqb-true}
 use Rattle.verdicts.proofs.Tests.{by_cases}
 use Rattle.wire.specs.Bytes.{word_at}
-use Rattle.capture.specs.Records.{record_head, most, head_of, held, front_of, packet, behind, Records, none, ruin, ◌before◌, going, read_by, read_of}
-use Rattle.capture.specs.declared.Head.{Head}
-use Rattle.capture.specs.declared.Head.TheVariants.{End, Damaged, Packet}
+use Rattle.capture.specs.Records.{record_head, most, Head, damaged, head_of, held, front_of, packet, behind, Records, none, ruin, ◌before◌, going, read_by, read_of}
 
 -- ---- what a record's head says, from the facts that lead to it
 module _ (xs : List ℕ) where
-  pub head-none : length xs ≡ 0 → head_of xs ≡ End
+  pub head-none : length xs ≡ 0 → head_of xs ≡ Ok None
   unfolding head_of
   head-none e = simp (eq-eqb (length xs) 0 e)
 
-  pub head-cut : 0 < length xs → length xs < record_head → head_of xs ≡ Damaged
-  unfolding head_of
-  head-cut s h = simp (ne_eqb (length xs) 0 (λ e. omega arith), lt-ltb (length xs) record_head h)
-
   module _ (there : record_head ≤ length xs) where
-    pub head-long : most < word_at xs 0 → head_of xs ≡ Damaged
-    unfolding head_of
-    head-long h = simp (ne_eqb (length xs) 0 (λ e. omega arith), le-ltb (length xs) record_head there, lt-ltb most (word_at xs 0) h)
-
-    pub head-packet : (n : ℕ) → n ≡ word_at xs 0 → n ≤ most → head_of xs ≡ Packet n
+    pub head-packet : (n : ℕ) → n ≡ word_at xs 0 → n ≤ most → head_of xs ≡ Ok (Some n)
     unfolding head_of
     head-packet n e h =
         rw e (simp (ne_eqb (length xs) 0 (λ z. omega arith), le-ltb (length xs) record_head there, le-ltb most (word_at xs 0) (omega arith)))
 
 -- a head that is there, and says how long its packet is
 pub record Headed (xs : List ℕ) (n : ℕ) : Type 0 where
-  pub head : head_of xs ≡ Packet n
+  pub head : head_of xs ≡ Ok (Some n)
   pub size : n ≡ word_at xs 0
   pub small : n ≤ most
   pub there : record_head ≤ length xs
 
 -- what each answer tells
 abbrev pub Says : List ℕ → Head → Type 0
-Says xs End = length xs ≡ 0
-Says xs Damaged = Unit
-Says xs (Packet n) = Headed xs n
+Says xs (Ok None) = length xs ≡ 0
+Says xs (Err d) = Unit
+Says xs (Ok (Some n)) = Headed xs n
 
 pub head-says : (xs : List ℕ) → Says xs (head_of xs)
 unfolding head_of
@@ -61,6 +47,17 @@ head-says xs =
     let small = ltb-false most (word_at xs 0) l in
     simp (z, c, l) (record { head = head-packet xs there _ refl small; size = refl; small = small; there = there }))))
 
+-- ---- a head at a place
+module _ (xs : List ℕ) (at : ℕ) where
+  pub length_here : length (drop at xs) ≡ length xs - at
+  length_here = length-drop at xs
+
+  pub word_here : word_at (drop at xs) 0 ≡ word_at xs at
+  word_here = simp (get_or-drop, add-zero)
+
+  pub head_there : {n : ℕ} → head_of (drop at xs) ≡ Ok (Some n) → at + record_head ≤ length xs
+  head_there e = omega (arith, length-drop at xs, (rw e at (head-says (drop at xs))).there)
+
 -- the head's own bytes tell as much as all
 pub head-taken : (xs : List ℕ) → head_of (take record_head xs) ≡ head_of xs
 unfolding head_of
@@ -69,31 +66,28 @@ head-taken (x ∷ []) = refl
 head-taken (x ∷ y ∷ xs) = rw (ne_eqb (length (x ∷ y ∷ xs)) 0 (λ e. omega arith), le-ltb (length (x ∷ y ∷ xs)) record_head (omega arith))
 
 -- ---- what some bytes begin with
-pub front-none : (xs : List ℕ) → length xs ≡ 0 → front_of xs ≡ End
+pub front-none : (xs : List ℕ) → length xs ≡ 0 → front_of xs ≡ Ok None
 front-none xs e = rw (head-none xs e)
 
-module _ (xs : List ℕ) (n : ℕ) (e : head_of xs ≡ Packet n) where
-  pub front_cut : length xs < record_head + n → front_of xs ≡ Damaged
-  front_cut h = simp (e, lt-ltb (length xs) (record_head + n) h)
-
-  pub front-whole : record_head + n ≤ length xs → front_of xs ≡ Packet n
-  front-whole h = simp (e, le-ltb (length xs) (record_head + n) h)
+module _ (xs : List ℕ) (n : ℕ) (e : head_of xs ≡ Ok (Some n)) where
+  pub front_whole : record_head + n ≤ length xs → front_of xs ≡ Ok (Some n)
+  front_whole h = simp (e, le-ltb (length xs) (record_head + n) h)
 
 -- what is damaged: the head, or the packet, which is cut
 pub data Damage (xs : List ℕ) : Type 0 where
-  in_head : head_of xs ≡ Damaged → Damage xs
+  in_head : head_of xs ≡ Err damaged → Damage xs
   in-packet : (n : ℕ) → Headed xs n → length xs < record_head + n → Damage xs
 
 -- what each beginning tells
 abbrev pub Begins : List ℕ → Head → Type 0
-Begins xs End = length xs ≡ 0
-Begins xs Damaged = Damage xs
-Begins xs (Packet n) = Headed xs n × (record_head + n ≤ length xs)
+Begins xs (Ok None) = length xs ≡ 0
+Begins xs (Err d) = Damage xs
+Begins xs (Ok (Some n)) = Headed xs n × (record_head + n ≤ length xs)
 
 begins-by : (xs : List ℕ) (h : Head) → head_of xs ≡ h → Says xs h → Begins xs (held (length xs) h)
-begins-by xs End e z = z
-begins-by xs Damaged e u = in_head e
-begins-by xs (Packet n) e k =
+begins-by xs (Ok None) e z = z
+begins-by xs (Err d) e u = in_head e
+begins-by xs (Ok (Some n)) e k =
     by_cases (ltb (length xs) (record_head + n))
     (λ c. simp c (in-packet n k (ltb-true (length xs) (record_head + n) c)))
     (λ c. simp c (k, ltb-false (length xs) (record_head + n) c))
@@ -102,10 +96,10 @@ pub begins : (xs : List ℕ) → Begins xs (front_of xs)
 begins xs = begins-by xs (head_of xs) refl (head-says xs)
 
 -- ---- the records one after the other
-same-going : (f : Head) (a b : ℕ → Records) → ((n : ℕ) → f ≡ Packet n → a n ≡ b n) → going f a ≡ going f b
-same-going End a b e = refl
-same-going Damaged a b e = refl
-same-going (Packet n) a b e = e n refl
+same-going : (f : Head) (a b : ℕ → Records) → ((n : ℕ) → f ≡ Ok (Some n) → a n ≡ b n) → going f a ≡ going f b
+same-going (Ok None) a b e = refl
+same-going (Err d) a b e = refl
+same-going (Ok (Some n)) a b e = e n refl
 
 -- as many turns as bytes are enough
 enough : (j k : ℕ) (xs : List ℕ) → length xs ≤ j → length xs ≤ k → read_by j xs ≡ read_by k xs
@@ -129,9 +123,9 @@ module _ (P : List ℕ → Records → Type 0)
     (break : (xs : List ℕ) → Damage xs → P xs ruin)
     (more : (xs : List ℕ) (n : ℕ) → Headed xs n → record_head + n ≤ length xs → P (behind xs n) (read_of (behind xs n)) → P xs (packet xs n before read_of (behind xs n))) where
   turn : (xs : List ℕ) (f : Head) → Begins xs f → front_of xs ≡ f → ((n : ℕ) → P (behind xs n) (read_of (behind xs n))) → P xs (read_of xs)
-  turn xs End z e on = rw (read_step xs, e) (end xs z)
-  turn xs Damaged d e on = rw (read_step xs, e) (break xs d)
-  turn xs (Packet n) w e on = rw (read_step xs, e) (more xs n w.0 w.1 (on n))
+  turn xs (Ok None) z e on = rw (read_step xs, e) (end xs z)
+  turn xs (Err d) g e on = rw (read_step xs, e) (break xs g)
+  turn xs (Ok (Some n)) w e on = rw (read_step xs, e) (more xs n w.0 w.1 (on n))
 
   by_length : (k : ℕ) (xs : List ℕ) → length xs ≤ k → P xs (read_of xs)
   by_length zero xs h = let z : length xs ≡ 0 = omega arith in rw (read_step xs, front-none xs z) (end xs z)

@@ -1,10 +1,8 @@
 -- What the records of a capture are: read from the front, and, the other way round, laid out.
-use Rattle.std.specs.Prelude.{ℕ, zero, suc, ◌+◌, ◌/◌, ◌%◌, ◌≤◌, List, [], ◌∷◌, ◌++◌, Bool, true, false, not, ◌&&◌, ◌||◌, length, drop, ltb, eqb, if◌then◌else◌}
+use Rattle.std.specs.Prelude.{ℕ, zero, suc, ◌+◌, ◌/◌, ◌%◌, ◌≤◌, List, [], ◌∷◌, ◌++◌, Bool, true, false, not, ◌&&◌, ◌||◌, length, drop, ltb, eqb, if◌then◌else◌, Option, Some, None, Result, Ok, Err}
+use Rattle.std.specs.declared.ops.Range.{Range}
 use Rattle.wire.specs.Bytes.{byte_at, word_at, part}
-use Rattle.capture.specs.declared.Found.{Found}
-use Rattle.capture.specs.declared.Found.TheVariants as found
-use Rattle.capture.specs.declared.Head.{Head}
-use Rattle.capture.specs.declared.Head.TheVariants.{End, Damaged, Packet}
+use Rattle.capture.specs.declared.Damaged.{Damaged}
 
 -- ---- a capture's head: mark and version
 abbrev pub capture_head : ℕ
@@ -26,21 +24,28 @@ record_head = 2
 abbrev pub most : ℕ
 most = 2048
 
+-- what a head can say: nothing is there, a packet of so many bytes follows, or something is damaged
+abbrev pub Head : Type 0
+Head = Result (Option ℕ) Damaged
+
+abbrev pub damaged : Damaged
+damaged = record {}
+
 -- what the bytes from a record's start say: there are none, the length is cut or too great, or a packet of so many
 -- bytes follows the head
 unfoldable pub head_of : List ℕ → Head
 head_of xs =
-    if eqb (length xs) 0 then End
-    else if ltb (length xs) record_head then Damaged
-    else if ltb most (word_at xs 0) then Damaged
-    else Packet (word_at xs 0)
+    if eqb (length xs) 0 then Ok None
+    else if ltb (length xs) record_head then Err damaged
+    else if ltb most (word_at xs 0) then Err damaged
+    else Ok (Some (word_at xs 0))
 
 -- ---- the records, read from the front
 -- the same where so many bytes are there: a cut packet is damage too
 abbrev pub held : ℕ → Head → Head
-held there End = End
-held there Damaged = Damaged
-held there (Packet n) = if ltb there (record_head + n) then Damaged else Packet n
+held there (Ok None) = Ok None
+held there (Err d) = Err d
+held there (Ok (Some n)) = if ltb there (record_head + n) then Err damaged else Ok (Some n)
 
 -- what some bytes begin with: nothing, damage, or a whole record with a packet of so many bytes
 abbrev pub front_of : List ℕ → Head
@@ -72,9 +77,9 @@ p before rest = record { packets = p ∷ rest.packets; broken = rest.broken }
 
 -- a whole record is read, and reading goes on behind it
 abbrev pub going : Head → (ℕ → Records) → Records
-going End on = none
-going Damaged on = ruin
-going (Packet n) on = on n
+going (Ok None) on = none
+going (Err d) on = ruin
+going (Ok (Some n)) on = on n
 
 -- at most so many records
 unfoldable pub read_by : ℕ → List ℕ → Records
@@ -89,13 +94,13 @@ read_of xs = read_by (length xs) xs
 abbrev pub records_in : List ℕ → Records
 records_in c = read_of (drop capture_head c)
 
--- where the record at a place of a capture starts and ends
-abbrev pub placed : ℕ → Head → Found
-placed at End = found.End
-placed at Damaged = found.Damaged
-placed at (Packet n) = found.Record (at + record_head) (at + record_head + n)
+-- where the packet of the record at a place of a capture starts and ends
+abbrev pub placed : ℕ → Head → Result (Option (Range ℕ)) Damaged
+placed at (Ok None) = Ok None
+placed at (Err d) = Err d
+placed at (Ok (Some n)) = Ok (Some (record { start = at + record_head; end = at + record_head + n }))
 
-unfoldable pub record_at : List ℕ → ℕ → Found
+unfoldable pub record_at : List ℕ → ℕ → Result (Option (Range ℕ)) Damaged
 record_at c at = placed at (front_of (drop at c))
 
 -- ---- the records, laid out

@@ -5,20 +5,19 @@
 #![tactic(auto)]
 
 ghost use Rattle.std.specs.Prelude.{◌≡◌, ◌≤◌, length, drop};
+ghost use Rattle.std.specs.Iterator.{YieldsFirstBy, item_count};
 ghost use Rattle.wire.specs.Bytes.{put};
-ghost use Rattle.capture.specs.Records.{other_mark, other_edition, head_of, record_at, records_in};
-ghost use Rattle.capture.specs.Judged.{verdicts_of, refusal, judged_of, counted_of};
+ghost use Rattle.verdicts.specs.declared.Verdict.TheVariants.{Record};
+ghost use Rattle.capture.specs.Records.{other_mark, other_edition, head_of, record_at, read_of};
+ghost use Rattle.capture.specs.Judged.{verdicts_of, judged_of, body_of, counted_of, shown, listed};
 
 use judge::number;
+use std::ops::Range;
 use verdicts::Verdict;
 use wire::word;
 
-// The mark, "GLR", and the version behind it.
-const MARK_0: u8 = 0x47;
-
-const MARK_1: u8 = 0x4C;
-
-const MARK_2: u8 = 0x52;
+// The mark, and the place of the version behind it.
+const MARK: &[u8] = b"GLR";
 
 const VERSION: usize = 3;
 
@@ -30,165 +29,150 @@ pub const RECORD_HEAD: usize = 2;
 
 pub const MOST: usize = 2048;
 
-// What a record's head says: nothing is there, something is damaged, or a packet of so many bytes follows.
-#[derive(Clone, Copy)]
-pub enum Head {
-    End,
-    Damaged,
-    Packet(usize),
+// Bytes that are no record: the length is cut or too great, or the packet is cut.
+#[derive(Clone, Copy, Debug, PartialEq, Eq)]
+pub struct Damaged;
+
+impl From<Damaged> for Verdict {
+    ghost from_gives = { λ _ v. v ≡ Record };
+
+    fn from(_: Damaged) -> Verdict {
+        Verdict::Record
+    }
 }
 
-// What stands at a place of a capture: a whole record, with the start and end of its packet, or the capture's end, or
-// something damaged.
+// The packets of the records that are left, in order, and behind them the damage, if there is any.
 #[derive(Clone, Copy)]
-pub enum Found {
-    Record { start: usize, end: usize },
-    End,
-    Damaged,
+struct Packets<'a> {
+    rest: &'a [u8],
 }
 
-// How many records a capture has, unless it is damaged.
-#[derive(Clone, Copy)]
-pub enum Counted {
-    Whole(usize),
-    Damaged,
+impl<'a> Iterator for Packets<'a> {
+    type Item = Result<&'a [u8], Damaged>;
+
+    ghost next_gives = { YieldsFirstBy shown (λ p. listed (read_of p.rest.now)) };
+
+    ghost remaining = { item_count (λ p. listed (read_of p.rest.now)) };
+
+    #[tactic(auto, using(crate::proofs::Places::first_end, crate::proofs::Places::first_packet, crate::proofs::Places::first_order, crate::proofs::Places::first_within, crate::proofs::Places::first_damage))]
+    fn next(&mut self) -> Option<Result<&'a [u8], Damaged>> {
+        let rest = self.rest;
+        match record_at(rest, 0) {
+            Ok(None) => None,
+            Ok(Some(packet)) => {
+                self.rest = &rest[packet.end..];
+                Some(Ok(&rest[packet.start..packet.end]))
+            }
+            Err(damaged) => {
+                self.rest = &[];
+                Some(Err(damaged))
+            }
+        }
+    }
 }
 
-// The verdict on a capture as a whole, and how many records were judged: 0 beside a refusal.
-#[derive(Clone, Copy)]
-pub struct Judged {
-    pub verdict: Verdict,
-    pub count: usize,
-}
-
-// Judges a capture's records, and writes one verdict number for each, in order, into the second buffer. The bytes past
-// the count stay, and a refusal writes nothing.
-pub fn judge_capture(capture: &[u8], verdicts: &mut [u8]) -> Judged
+// Judges a capture's records, and writes one verdict number for each, in order, into the second buffer. Answers how many
+// there are; the bytes past that count stay, and a refusal writes nothing.
+#[tactic(auto, unfolding(crate::specs::Judged::judged_of, crate::specs::Judged::capture_rules))]
+pub fn judge_capture(capture: &[u8], verdicts: &mut [u8]) -> Result<usize, Verdict>
     ensures { (result, verdicts.new) ≡ judged_of capture.now verdicts.old }
 {
-    if other_mark(capture) {
-        return refused(Verdict::Mark);
-    }
-    if other_edition(capture) {
-        return refused(Verdict::Edition);
-    }
-    let counted = count_records(capture);
-    let Counted::Whole(count) = counted else {
-        return refused(Verdict::Record);
-    };
+    let rest = body(capture)?;
+    let count = count(rest)?;
     if verdicts.len() < count {
-        return refused(Verdict::Room);
+        return Err(Verdict::Room);
     }
-    judge_each(capture, verdicts);
-    Judged {
-        verdict: Verdict::Good,
-        count,
-    }
+    judge_each(rest, verdicts);
+    Ok(count)
 }
 
-fn refused(verdict: Verdict) -> Judged
-    ensures { result ≡ refusal verdict }
+// The bytes behind a capture's head, where its records stand.
+#[tactic(auto, using(crate::proofs::Heads::edition_long))]
+fn body(capture: &[u8]) -> Result<&[u8], Verdict>
+    ensures { shown result ≡ body_of capture.now }
 {
-    Judged { verdict, count: 0 }
+    if other_mark(capture) {
+        return Err(Verdict::Mark);
+    }
+    if other_edition(capture) {
+        return Err(Verdict::Edition);
+    }
+    Ok(&capture[CAPTURE_HEAD..])
 }
 
 // Whether a capture is too short for the mark, or has another.
+#[tactic(auto, using(crate::proofs::Heads::mark_begins))]
 pub fn other_mark(capture: &[u8]) -> bool
     ensures { result ≡ other_mark capture.now }
 {
-    if capture.len() < VERSION {
-        return true;
-    }
-    if capture[0] != MARK_0 {
-        return true;
-    }
-    if capture[1] != MARK_1 {
-        return true;
-    }
-    capture[2] != MARK_2
+    !capture.starts_with(MARK)
 }
 
 // Whether a capture is too short for the version, or has another than 1.
+#[tactic(auto, unfolding(crate::specs::Records::other_edition))]
 pub fn other_edition(capture: &[u8]) -> bool
     ensures { result ≡ other_edition capture.now }
 {
-    if capture.len() < CAPTURE_HEAD {
-        return true;
-    }
-    word(capture, VERSION) != 1
+    capture.len() < CAPTURE_HEAD || word(capture, VERSION) != 1
 }
 
-// What the head of the record at a place says. A place past the end is the end.
-pub fn head_at(bytes: &[u8], at: usize) -> Head
+// The length of the packet that follows the head of the record at a place. A place past the end is the end.
+#[tactic(auto, using(crate::proofs::Reading::length_here, crate::proofs::Reading::word_here), unfolding(crate::specs::Records::head_of))]
+pub fn head_at(bytes: &[u8], at: usize) -> Result<Option<usize>, Damaged>
     ensures { result ≡ head_of (drop at bytes.now) }
 {
     if bytes.len() <= at {
-        return Head::End;
+        return Ok(None);
     }
     if bytes.len() - at < RECORD_HEAD {
-        return Head::Damaged;
+        return Err(Damaged);
     }
-    let size = word(bytes, at) as usize;
+    let size = usize::from(word(bytes, at));
     if MOST < size {
-        return Head::Damaged;
+        return Err(Damaged);
     }
-    Head::Packet(size)
+    Ok(Some(size))
 }
 
-// What stands at a place of a capture behind its head.
-pub fn record_at(capture: &[u8], at: usize) -> Found
+// Where the packet of the record at a place of a capture stands, or `None` at the capture's end.
+#[tactic(auto, using(crate::proofs::Reading::length_here, crate::proofs::Reading::head_there, crate::proofs::Reading::front_whole), unfolding(crate::specs::Records::record_at))]
+pub fn record_at(capture: &[u8], at: usize) -> Result<Option<Range<usize>>, Damaged>
     ensures { result ≡ record_at capture.now at }
 {
-    let head = head_at(capture, at);
-    match head {
-        Head::End => Found::End,
-        Head::Damaged => Found::Damaged,
-        Head::Packet(size) => {
-            let start = at + RECORD_HEAD;
-            if capture.len() - start < size {
-                return Found::Damaged;
-            }
-            Found::Record {
-                start,
-                end: start + size,
-            }
-        }
+    let Some(size) = head_at(capture, at)? else {
+        return Ok(None);
+    };
+    let start = at + RECORD_HEAD;
+    if capture.len() - start < size {
+        return Err(Damaged);
     }
+    Ok(Some(start..start + size))
 }
 
 // The first pass: how many records there are.
-fn count_records(capture: &[u8]) -> Counted
-    ensures { result ≡ counted_of (records_in capture.now) }
+#[tactic(auto, using(crate::proofs::Passes::counting_all, crate::proofs::Passes::few_listed))]
+fn count(rest: &[u8]) -> Result<usize, Damaged>
+    ensures { result ≡ counted_of (read_of rest.now) }
 {
-    let mut at = CAPTURE_HEAD;
     let mut count: usize = 0;
-    loop {
-        let found = record_at(capture, at);
-        match found {
-            Found::Record { start: _, end } => {
-                count += 1;
-                at = end;
-            }
-            Found::End => return Counted::Whole(count),
-            Found::Damaged => return Counted::Damaged,
-        }
+    for packet in (Packets { rest }) {
+        packet?;
+        count += 1;
     }
+    Ok(count)
 }
 
 // The second pass: each record's verdict into its place.
-fn judge_each(capture: &[u8], verdicts: &mut [u8])
-    requires { length (records_in capture.now).packets ≤ length verdicts.old }
-    ensures { verdicts.new ≡ put verdicts.old 0 (verdicts_of (records_in capture.now).packets) }
+#[tactic(auto, using(crate::proofs::Passes::sound_listed, crate::proofs::Passes::judging_full, crate::proofs::Passes::judging_none, crate::proofs::Passes::judging_damage))]
+fn judge_each(rest: &[u8], verdicts: &mut [u8])
+    requires { length (read_of rest.now).packets ≤ length verdicts.old }
+    ensures { verdicts.new ≡ put verdicts.old 0 (verdicts_of (read_of rest.now).packets) }
 {
-    let mut at = CAPTURE_HEAD;
-    let mut i: usize = 0;
-    loop {
-        let found = record_at(capture, at);
-        let Found::Record { start, end } = found else {
+    let mut packets = Packets { rest };
+    for verdict in verdicts.iter_mut() {
+        let Some(Ok(packet)) = packets.next() else {
             return;
         };
-        verdicts[i] = number(&capture[start..end]);
-        i += 1;
-        at = end;
+        *verdict = number(packet);
     }
 }

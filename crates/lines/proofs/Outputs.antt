@@ -1,14 +1,9 @@
 -- A whole run prints exactly the bytes of the lines that the layout defines.
-use Rattle.std.specs.Prelude.{if◌then◌else◌}
-use mathlib.Core.Path.{◌≡◌, refl, sym, ap, ap₂, ◌∙◌}
-use Prim.Native.Nat.{ℕ, zero, suc, ◌+◌, ◌/◌, ◌%◌, ◌^◌, ◌≤◌, ◌<◌}
-use native.Mathlib.Omega.{arith}
-use native.Mathlib.Nat.{pow-suc}
-use mathlib.Core.List.{List, [], ◌∷◌, ◌++◌}
-use mathlib.Core.Bool.{Bool, true, false}
-use lib.ListN.{length, take, drop, length-append}
-use lib.Seq.{sets-eq, length-sets, take-append_seam}
-use lib.Dec.{eqb, ltb}
+use Rattle.std.proofs.Common.{◌≡◌, refl, sym, ap, ap₂, ◌∙◌, ℕ, zero, suc, ◌+◌, ◌/◌, ◌%◌, ◌^◌, ◌≤◌, ◌<◌, arith, pow-suc, List, [], ◌∷◌, ◌++◌, Bool, true, false, length, take, drop, length-append}
+use Rattle.std.proofs.lemmas.List.Edits.{sets-eq}
+use Rattle.std.proofs.Math.Seq.{length-sets, take-append_seam}
+use Rattle.std.specs.Prelude.{if◌then◌else◌, eqb, ltb, Option, Some, None, Ok, Err}
+use Rattle.std.specs.Option.{option_map_or}
 use borrow.Author.Tests.{lt-ltb, ltb-true}
 use Rattle.io.specs.Digits.{last_digits, hex_digit_ascii}
 use Rattle.verdicts.specs.Numbers.{number_of}
@@ -18,21 +13,17 @@ use Rattle.verdicts.proofs.Tests.{by_cases}
 use Rattle.verdicts.proofs.Rules.{first_either}
 use Rattle.wire.specs.Bytes.{put}
 use Rattle.judge.specs.Judge.{judge_of}
-use Rattle.capture.specs.Records.{head_of}
+use Rattle.capture.specs.Records.{Head, head_of}
 use Rattle.capture.specs.Judged.{head_rules}
-use Rattle.capture.specs.declared.Head.{Head}
-use Rattle.capture.specs.declared.Head.TheVariants.{End, Damaged, Packet}
 use Rattle.lines.specs.Text.{line_size, ascii, places_by, places, decimal_of}
-use Rattle.lines.specs.Lines.{verdict_on, pair_text, totals_text, text_of, printed, is_good, is_unsummed, is_refused, lines_of}
-use Rattle.lines.specs.Feed.{start_of, want_of, largest, more, stopping, judging, ending, going, by_head, decided_in, decided_of, fed_of}
+use Rattle.lines.specs.Lines.{verdict_on, pair_text, totals_text, text_of, line_text, printed, is_good, is_unsummed, is_refused, lines_of}
+use Rattle.lines.specs.Feed.{start_of, want_of, largest, more, Decided, stopping, judging, ending, going, by_head, decided_in, decided_of, fed_of}
 use Rattle.lines.specs.Run.{output_by, ◌onto◌, run_by}
 use Rattle.lines.specs.declared.Phase.{Phase}
 use Rattle.lines.specs.declared.Phase.TheVariants as phase
 use Rattle.lines.specs.declared.Tally.{Tally}
 use Rattle.lines.specs.declared.State.{State}
-use Rattle.lines.specs.declared.Decided.{Decided}
 use Rattle.lines.specs.declared.Line.{Line}
-use Rattle.lines.specs.declared.Line.TheVariants.{Nothing, Judged, Totals, Stopped}
 use Rattle.lines.proofs.Runs.{run-lines}
 
 -- ---- a number of 64 bits takes at most 20 bytes
@@ -68,8 +59,8 @@ record Counts (t : Tally) : Type 0 where
   refused : Narrow t.refused
 
 record Fit (d : Decided) : Type 0 where
-  text : length (text_of d.line) ≤ line_size
-  counts : Counts d.state.tally
+  text : length (line_text d.1) ≤ line_size
+  counts : Counts d.0.tally
 
 number-narrow : (v : Verdict) → Narrow (number_of v)
 number-narrow verdict.Good = omega arith
@@ -146,9 +137,9 @@ module _ (t : Tally) (k : Counts t) where
       }
 
   fit-head : (h : Head) → Fit (by_head t h)
-  fit-head End = fit-ending
-  fit-head Damaged = fit-stopping verdict.Record
-  fit-head (Packet n) = fit-if (eqb n 0) (fit-judging []) (fit-going (phase.Packet n))
+  fit-head (Ok None) = fit-ending
+  fit-head (Err d) = fit-stopping verdict.Record
+  fit-head (Ok (Some n)) = fit-if (eqb n 0) (fit-judging []) (fit-going (phase.Packet n))
 
   fit : (p : Phase) (bytes : List ℕ) → Fit (decided_in p t bytes)
   fit phase.CaptureHead bytes = first_either Fit (head_rules bytes) (stopping t) (going phase.RecordHead t) fit-stopping (λ c. fit-going phase.RecordHead)
@@ -166,27 +157,26 @@ put-length : (buffer text : List ℕ) → length (put buffer 0 text) ≡ length 
 unfolding put
 put-length buffer text = length-sets buffer 0 text
 
-printed-onto : (l : Line) (ls : List Line) → printed (l onto ls) ≡ text_of l ++ printed ls
-unfolding printed text_of
-printed-onto Nothing ls = refl
-printed-onto (Judged n v) ls = refl
-printed-onto (Totals t) ls = refl
-printed-onto (Stopped v n) ls = refl
+printed-onto : (l : Option Line) (ls : List Line) → printed (l onto ls) ≡ line_text l ++ printed ls
+unfolding printed
+printed-onto None ls = refl
+printed-onto (Some l) ls = refl
 
 outputs : (turns : ℕ) (s : State) (input buffer : List ℕ) → Counts s.tally → line_size ≤ length buffer → output_by turns s input buffer ≡ printed (run_by turns s input)
 unfolding output_by run_by fed_of printed
 outputs zero s input buffer k h = refl
 outputs (suc turns) s input buffer k h =
-    let n = want_of s in
-    let d = decided_of s (take n input) in
-    let f = fit s.tally k s.phase (take n input) in
-    by_cases (eqb n 0)
-    (λ b. rw b refl)
-    (λ b.
-    rw b
-    (ap₂ (λ xs ys. xs ++ ys) (put-taken buffer (text_of d.line) (omega arith))
-    (outputs turns d.state (drop n input) (put buffer 0 (text_of d.line)) f.counts (rw put-length h))
-    ∙ sym (printed-onto d.line (run_by turns d.state (drop n input)))))
+    let d = λ (n : ℕ). decided_of s (take n input) in
+    let page = λ (n : ℕ). put buffer 0 (line_text (d n).1) in
+    let prints = option_map_or (λ n. take (length (line_text (d n).1)) (page n) ++ output_by turns (d n).0 (drop n input) (page n)) in
+    let runs = option_map_or (λ n. (d n).1 onto run_by turns (d n).0 (drop n input)) in
+    elim (want_of s) as (λ w. prints w [] ≡ printed (runs w [])) [
+      | None ↦ refl
+      | Some n ↦
+          let f = fit s.tally k s.phase (take n input) in
+          ap₂ (λ xs ys. xs ++ ys) (put-taken buffer (line_text (d n).1) (omega arith)) (outputs turns (d n).0 (drop n input) (page n) f.counts (rw put-length h))
+          ∙ sym (printed-onto (d n).1 (run_by turns (d n).0 (drop n input)))
+    ]
 
 -- A run over an input prints the bytes of the lines that the layout defines, and nothing else.
 pub run-prints : (file buffer : List ℕ) (turns : ℕ) → line_size ≤ length buffer → length file < turns → length file ≤ largest

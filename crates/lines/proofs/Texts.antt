@@ -1,17 +1,17 @@
 -- Laws of what is put into a buffer, and of numbers in decimal.
-use mathlib.Core.Path.{◌≡◌, refl, sym, ap, ap₂, ◌∙◌}
-use Prim.Native.Nat.{ℕ, zero, suc, ◌+◌, ◌-◌, ◌/◌, ◌^◌, ◌≤◌}
-use native.Mathlib.Omega.{arith}
-use native.Mathlib.Nat.{zero-add, add-zero, pow-suc, pow-le-pow_right}
-use mathlib.Core.List.{List, [], ◌∷◌, ◌++◌}
-use lib.ListN.{length, set, length-append}
-use lib.Seq.{sets}
-use lib.Dec.{ltb}
+use Rattle.std.proofs.Common.{◌≡◌, refl, sym, ap, ap₂, ◌∙◌, ℕ, zero, suc, ◌+◌, ◌-◌, ◌/◌, ◌^◌, ◌≤◌, ◌<◌, arith, zero-add, add-zero, pow-suc, List, [], ◌∷◌, ◌++◌, length, get_or, take, set, length-append, take_all}
+use Rattle.std.specs.Prelude.{ltb}
+use Rattle.std.specs.Borrow.{Bor}
+use Rattle.std.proofs.lemmas.List.{take_more, flat_map_more}
+use Rattle.std.proofs.lemmas.List.Sums.{sum_by_more, sum_by-take-le}
+use Rattle.std.proofs.Math.Nat.{pow-le-pow_right}
+use Rattle.std.proofs.Math.Seq.{sets}
 use borrow.Author.Tests.{lt-ltb, le-ltb, ltb-true, ltb-false}
 use Rattle.io.specs.Digits.{last_digits, IsDigitCount}
 use Rattle.verdicts.proofs.Tests.{by_cases}
 use Rattle.wire.specs.Bytes.{put}
 use Rattle.lines.specs.Text.{places_by, decimal_of, Page, ◌then◌}
+use Rattle.lines.specs.Lines.{parts_text, room_of}
 use Rattle.lines.specs.Feed.{largest}
 
 -- ---- bytes after bytes
@@ -24,17 +24,6 @@ sets-append l i (x ∷ xs) ys =
 pub then_append : (p : Page) (xs ys : List ℕ) → p then (xs ++ ys) ≡ p then xs then ys
 unfolding ◌then◌ put
 then_append p xs ys = ap₂ {C = Page} (λ n l. (n, l)) (omega (arith, length-append xs ys)) (sets-append p.1 p.0 xs ys)
-
-module _ (p : Page) (a b c d e : List ℕ) where
-  -- two counts and a line's end, one after the other
-  pub two-counts : (q r s : Page) → q ≡ p then a then b → r ≡ q then c then d → s ≡ r then e → s ≡ p then (a ++ (b ++ (c ++ (d ++ e))))
-  two-counts q r s g h i = i ∙ ap (λ x. x then e) (h ∙ ap (λ x. x then c then d) g) ∙ sym (simp then_append)
-
-  -- four counts and a line's end
-  pub four-counts : (f g h i : List ℕ) (q r s u v : Page) → q ≡ p then a then b → r ≡ q then c then d → s ≡ r then e then f → u ≡ s then g then h → v ≡ u then i
-      → v ≡ p then (a ++ (b ++ (c ++ (d ++ (e ++ (f ++ (g ++ (h ++ i))))))))
-  four-counts f g h i q r s u v k l m n o =
-      o ∙ ap (λ x. x then i) (n ∙ ap (λ x. x then g then h) (m ∙ ap (λ x. x then e then f) (l ∙ ap (λ x. x then c then d) k))) ∙ sym (simp then_append)
 
 -- a buffer's page from its first byte on
 pub from_first : (w : ℕ) (l buffer text : List ℕ) → (w, l) ≡ (0, buffer) then text → (w ≡ length text) × (l ≡ put buffer 0 text)
@@ -79,3 +68,44 @@ few-digits n k h f =
     let most : 10 ^ 20 ≤ 10 ^ (k - 1) = pow-le-pow_right (omega arith) {i = 20} (omega arith) in
     absurd (omega (arith, f.2 (omega arith))))
     (λ b. ltb-false 20 k b)
+
+-- ---- texts with a number behind each, one after the other
+abbrev Part : Type 0
+Part = Bor (List ℕ) × ℕ
+
+-- where the next one is put, and what stands before it
+pub record Spelling (parts : List Part) (buffer : List ℕ) (at : ℕ) (out : List ℕ) (i : ℕ) : Type 0 where
+  pub page : (at, out) ≡ (0, buffer) then parts_text (take i parts)
+  pub room : at ≤ room_of (take i parts)
+
+pub spelling_start : (parts : List Part) (buffer : List ℕ) → Spelling parts buffer 0 buffer 0
+unfolding ◌then◌ put
+spelling_start parts buffer = record { page = refl; room = omega arith }
+
+module _ (parts : List Part) {buffer out : List ℕ} {at i : ℕ} (s : Spelling parts buffer at out i) where
+  module _ (d : Part) (h : i < length parts) where
+    abbrev part : Part
+    part = get_or parts i d
+
+    room-more : room_of (take (i + 1) parts) ≡ room_of (take i parts) + (length part.0.now + 20)
+    room-more = sum_by_more (λ (p : Part). length p.0.now + 20) parts i d h
+
+    parts-more : parts_text (take (i + 1) parts) ≡ parts_text (take i parts) ++ (part.0.now ++ decimal_of part.1)
+    parts-more = ap parts_text (take_more parts i d h) ∙ sym (flat_map_more (λ (p : Part). p.0.now ++ decimal_of p.1) [] (take i parts) part)
+
+    pub spelling-room : at + length part.0.now + 20 ≤ room_of parts
+    spelling-room = omega (arith, s.room, room-more, sum_by-take-le (λ (p : Part). length p.0.now + 20) parts (i + 1))
+
+    pub spelling-more : (k : ℕ) (l : List ℕ) → (k, l) ≡ (at, out) then part.0.now then decimal_of part.1 → k ≤ at + length part.0.now + 20 → Spelling parts buffer k l (i + 1)
+    spelling-more k l e r =
+        record {
+          page = e ∙ ap (λ p. p then part.0.now then decimal_of part.1) s.page ∙ sym (ap (λ t. (0, buffer) then t) parts-more ∙ then_append _ _ _ ∙ then_append _ _ _);
+          room = omega (arith, s.room, room-more);
+        }
+
+  module _ (h : length parts ≤ i) where
+    pub spelled-room : at ≤ room_of parts
+    spelled-room = omega (arith, s.room, ap room_of (take_all i parts h))
+
+    pub spelled : (k : ℕ) (l last : List ℕ) → (k, l) ≡ (at, out) then last → (k, l) ≡ (0, buffer) then (parts_text parts ++ last)
+    spelled k l last e = e ∙ ap (λ p. p then last) (s.page ∙ ap (λ ps. (0, buffer) then parts_text ps) (take_all i parts h)) ∙ sym (then_append _ _ _)

@@ -1,22 +1,19 @@
 -- What decides the lines, a piece of the input at a time.
-use Rattle.std.specs.Prelude.{ℕ, ◌+◌, List, [], length, take, eqb, ltb, if◌then◌else◌}
-use Rattle.verdicts.specs.Numbers.{number_of}
+use Rattle.std.specs.Prelude.{ℕ, ◌+◌, List, [], length, take, eqb, ltb, if◌then◌else◌, Option, Some, None, Ok, Err}
 use Rattle.verdicts.specs.Rules.{first}
 use Rattle.verdicts.specs.declared.Verdict.{Verdict}
 use Rattle.verdicts.specs.declared.Verdict.TheVariants.{Record}
 use Rattle.wire.specs.Bytes.{put}
-use Rattle.capture.specs.Records.{capture_head, record_head, head_of}
+use Rattle.judge.specs.Judge.{judge_of}
+use Rattle.capture.specs.Records.{capture_head, record_head, Head, head_of}
 use Rattle.capture.specs.Judged.{head_rules}
-use Rattle.capture.specs.declared.Head.{Head}
-use Rattle.capture.specs.declared.Head.TheVariants.{End, Damaged, Packet}
-use Rattle.lines.specs.Lines.{text_of, verdict_on, is_good, is_unsummed, is_refused}
+use Rattle.lines.specs.Lines.{line_text, verdict_on, is_good, is_unsummed, is_refused}
 use Rattle.lines.specs.declared.Phase.{Phase}
 use Rattle.lines.specs.declared.Phase.TheVariants as phase
 use Rattle.lines.specs.declared.Tally.{Tally}
 use Rattle.lines.specs.declared.State.{State}
-use Rattle.lines.specs.declared.Line.TheVariants.{Nothing, Judged, Totals, Stopped}
-use Rattle.lines.specs.declared.Decided.{Decided}
-use Rattle.lines.specs.declared.Fed.{Fed}
+use Rattle.lines.specs.declared.Line.{Line}
+use Rattle.lines.specs.declared.Line.TheVariants.{Judged, Totals, Stopped}
 
 abbrev pub zeros : Tally
 zeros = record { records = 0; good = 0; unsummed = 0; refused = 0 }
@@ -25,13 +22,13 @@ abbrev pub start_of : State
 start_of = record { phase = phase.CaptureHead; tally = zeros }
 
 -- how many bytes are wanted next: a head, a packet, or nothing more
-abbrev pub want_in : Phase → ℕ
-want_in phase.CaptureHead = capture_head
-want_in phase.RecordHead = record_head
-want_in (phase.Packet size) = size
-want_in phase.Stopped = 0
+abbrev pub want_in : Phase → Option ℕ
+want_in phase.CaptureHead = Some capture_head
+want_in phase.RecordHead = Some record_head
+want_in (phase.Packet size) = if eqb size 0 then None else Some size
+want_in phase.Stopped = None
 
-abbrev pub want_of : State → ℕ
+abbrev pub want_of : State → Option ℕ
 want_of s = want_in s.phase
 
 -- the largest number of 64 bits, at which a count stays
@@ -50,19 +47,23 @@ tallied t v = record {
   refused = if is_refused v then more t.refused else t.refused;
 }
 
+-- the next state, and the line, if any
+abbrev pub Decided : Type 0
+Decided = State × Option Line
+
 abbrev pub going : Phase → Tally → Decided
-going p t = record { state = record { phase = p; tally = t }; line = Nothing }
+going p t = (record { phase = p; tally = t }, None)
 
 abbrev pub stopping : Tally → Verdict → Decided
-stopping t v = record { state = record { phase = phase.Stopped; tally = t }; line = Stopped (number_of v) t.records }
+stopping t v = (record { phase = phase.Stopped; tally = t }, Some (Stopped v t.records))
 
 abbrev pub judging : Tally → List ℕ → Decided
 judging t packet =
     let u = tallied t (verdict_on packet) in
-    record { state = record { phase = phase.RecordHead; tally = u }; line = Judged u.records (verdict_on packet) }
+    (record { phase = phase.RecordHead; tally = u }, Some (Judged u.records (judge_of packet)))
 
 abbrev pub ending : Tally → Decided
-ending t = record { state = record { phase = phase.Stopped; tally = t }; line = Totals t }
+ending t = (record { phase = phase.Stopped; tally = t }, Some (Totals t))
 
 -- the capture's head was read
 abbrev pub after_capture_head : Tally → List ℕ → Decided
@@ -70,9 +71,9 @@ after_capture_head t bytes = first (head_rules bytes) (stopping t) (going phase.
 
 -- by what a record's head says: at the input's end the totals follow, and a packet of no bytes is judged at once
 abbrev pub by_head : Tally → Head → Decided
-by_head t End = ending t
-by_head t Damaged = stopping t Record
-by_head t (Packet n) = if eqb n 0 then judging t [] else going (phase.Packet n) t
+by_head t (Ok None) = ending t
+by_head t (Err d) = stopping t Record
+by_head t (Ok (Some n)) = if eqb n 0 then judging t [] else going (phase.Packet n) t
 
 -- a record's head was read
 abbrev pub after_record_head : Tally → List ℕ → Decided
@@ -92,8 +93,8 @@ decided_in phase.Stopped t bytes = going phase.Stopped t
 abbrev pub decided_of : State → List ℕ → Decided
 decided_of s bytes = decided_in s.phase s.tally bytes
 
--- the same, with the line as bytes at the start of a buffer
-unfoldable pub fed_of : State → List ℕ → List ℕ → Fed × List ℕ
+-- the same, with the line as bytes at the start of a buffer: the next state, how many bytes, and the buffer
+unfoldable pub fed_of : State → List ℕ → List ℕ → State × ℕ × List ℕ
 fed_of s bytes buffer =
     let d = decided_of s bytes in
-    (record { state = d.state; written = length (text_of d.line) }, put buffer 0 (text_of d.line))
+    (d.0, length (line_text d.1), put buffer 0 (line_text d.1))

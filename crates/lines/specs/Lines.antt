@@ -1,5 +1,6 @@
 -- The lines: as data, as bytes, and which ones a whole input has.
-use Rattle.std.specs.Prelude.{ℕ, ◌+◌, List, [], ◌∷◌, ◌++◌, Bool, length, eqb, ltb, if◌then◌else◌}
+use Rattle.std.specs.Prelude.{ℕ, ◌+◌, List, [], ◌∷◌, ◌++◌, Bool, length, eqb, ltb, if◌then◌else◌, Option, Some, None, flat_map, sum_by}
+use Rattle.std.specs.Borrow.{Bor}
 use Rattle.verdicts.specs.Numbers.{number_of}
 use Rattle.verdicts.specs.Rules.{first}
 use Rattle.verdicts.specs.declared.Verdict.TheVariants.{Record}
@@ -9,7 +10,7 @@ use Rattle.capture.specs.Judged.{head_rules}
 use Rattle.lines.specs.Text.{ascii, decimal_of}
 use Rattle.lines.specs.declared.Tally.{Tally}
 use Rattle.lines.specs.declared.Line.{Line}
-use Rattle.lines.specs.declared.Line.TheVariants.{Nothing, Judged, Totals, Stopped}
+use Rattle.lines.specs.declared.Line.TheVariants.{Judged, Totals, Stopped}
 
 -- ---- a line's bytes
 -- two texts with a number behind each
@@ -21,11 +22,27 @@ totals_text t =
     ascii "records " ++ (decimal_of t.records ++ (ascii " good " ++ (decimal_of t.good
     ++ (ascii " unsummed " ++ (decimal_of t.unsummed ++ (ascii " refused " ++ (decimal_of t.refused ++ ascii "\n")))))))
 
+-- texts with a number behind each
+abbrev pub parts_text : List (Bor (List ℕ) × ℕ) → List ℕ
+parts_text ps = flat_map (λ p. p.0.now ++ decimal_of p.1) ps
+
+-- the same and a line's end
+abbrev pub counts_text : List (Bor (List ℕ) × ℕ) → List ℕ
+counts_text ps = parts_text ps ++ ascii "\n"
+
+-- how many bytes they take at most, where a number takes 20
+abbrev pub room_of : List (Bor (List ℕ) × ℕ) → ℕ
+room_of ps = sum_by (λ p. length p.0.now + 20) ps
+
 unfoldable pub text_of : Line → List ℕ
-text_of Nothing = []
-text_of (Judged number verdict) = pair_text (ascii "record ") number (ascii " verdict ") verdict
+text_of (Judged number verdict) = pair_text (ascii "record ") number (ascii " verdict ") (number_of verdict)
 text_of (Totals t) = totals_text t
-text_of (Stopped verdict after) = pair_text (ascii "stopped ") verdict (ascii " after ") after
+text_of (Stopped verdict after) = pair_text (ascii "stopped ") (number_of verdict) (ascii " after ") after
+
+-- of no line there are none
+abbrev pub line_text : Option Line → List ℕ
+line_text None = []
+line_text (Some l) = text_of l
 
 unfoldable pub printed : List Line → List ℕ
 printed [] = []
@@ -38,7 +55,7 @@ verdict_on packet = number_of (judge_of packet)
 -- a line for each record, numbered on from those before
 unfoldable pub record_lines : ℕ → List (List ℕ) → List Line
 record_lines before [] = []
-record_lines before (p ∷ ps) = Judged (before + 1) (verdict_on p) ∷ record_lines (before + 1) ps
+record_lines before (p ∷ ps) = Judged (before + 1) (judge_of p) ∷ record_lines (before + 1) ps
 
 unfoldable pub how_many : (ℕ → Bool) → List (List ℕ) → ℕ
 how_many test [] = 0
@@ -59,10 +76,10 @@ tally_of ps = record { records = length ps; good = how_many is_good ps; unsummed
 
 -- behind the records: the totals, or where damage stopped the reading
 abbrev pub last_line : Records → Line
-last_line r = if r.broken then Stopped (number_of Record) (length r.packets) else Totals (tally_of r.packets)
+last_line r = if r.broken then Stopped Record (length r.packets) else Totals (tally_of r.packets)
 
 unfoldable pub lines_of : List ℕ → List Line
 lines_of file =
     first (head_rules file)
-    (λ v. Stopped (number_of v) 0 ∷ [])
+    (λ v. Stopped v 0 ∷ [])
     (record_lines 0 (records_in file).packets ++ (last_line (records_in file) ∷ []))

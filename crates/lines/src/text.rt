@@ -1,4 +1,5 @@
 // Words and numbers put into a buffer one after the other.
+// kept: `write!` promises its bytes only where it doesn't fail, and nothing says when that is; `feed` promises them always.
 ghost use Rattle.std.specs.Prelude.{◌≡◌, ◌+◌, ◌≤◌, length};
 ghost use Rattle.lines.specs.Text.{decimal_of, ◌then◌};
 

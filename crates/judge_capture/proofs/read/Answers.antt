@@ -17,7 +17,7 @@ filled a k n xs ys h l =
 pub loop-count-preserved : goal.loop-count-preserved
 loop-count-preserved g c =
     let a = c.loop-count.count in
-    let k = c.least-most.result - a in
+    let k = length c.loop-count.buffer - a in
     let joined = filled a k c.in_ok-more.more c.loop-count.buffer c.read.new.buf (omega arith) c.in_ok-more.ensures.bound.0 in (
       omega (arith, c.in_ok-more.ensures.bound.0),
       search rules,

@@ -1,7 +1,5 @@
 -- The digits that `io::decimal` gives are the number's decimal.
-use mathlib.Core.Path.{ap₂, ◌∙◌}
-use Prim.Native.Nat.{◌≤◌}
-use native.Mathlib.Omega.{arith}
+use Rattle.std.proofs.Common.{ap₂, ◌∙◌, ◌≤◌, arith}
 use Rattle.lines.specs.Text.{◌then◌}
 use Rattle.lines.proofs.Texts.{decimal-is, few-digits}
 use Rattle.lines.proofs.text.put_count.Goals as goal

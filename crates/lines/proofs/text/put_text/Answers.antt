@@ -1,5 +1,5 @@
 -- The bytes put are the page's next.
-use mathlib.Core.Path.{refl}
+use Rattle.std.proofs.Common.{refl}
 use Rattle.lines.specs.Text.{◌then◌}
 use Rattle.lines.proofs.text.put_text.Goals as goal
 
