@@ -1,36 +1,18 @@
 -- Each answer, from the facts that lead to it.
-use mathlib.Core.Path.{◌≡◌, refl, sym, ap, ap₂, ◌∙◌}
-use Prim.Native.Nat.{ℕ, ◌<◌, ◌≤◌}
-use native.Mathlib.Omega.{arith}
-use mathlib.Core.List.{List, ◌++◌}
-use mathlib.Core.Bool.{Bool, true, false, not, ◌||◌}
-use lib.ListN.{length, take, drop}
-use lib.Dec.{ltb, eqb}
-use lib.Seq.{length-take-le}
-use borrow.Author.Tests.{lt-ltb, le-ltb, eq-eqb, ne_eqb, ltb-false, eqb-true, eqb-false, not-false}
+use Rattle.std.proofs.Common.{◌≡◌, sym, ap, ap₂, ◌∙◌, ℕ, ◌+◌, ◌<◌, ◌≤◌, arith, List, ◌++◌, true, false, not, ◌||◌, length, drop, ltb, eqb, lt-ltb, le-ltb, eq-eqb, ne_eqb, ltb-false, eqb-true}
+use borrow.Author.Tests.{eqb-false, not-false}
 use Rattle.verdicts.specs.declared.Verdict.TheVariants.{Place, Spent, Room}
 use Rattle.verdicts.proofs.Tests.{by_cases, or-false}
 use Rattle.verdicts.proofs.Rules.{clear_first}
 use Rattle.wire.specs.Bytes.{put}
 use Rattle.wire.specs.declared.Message.{Message}
-use Rattle.build.specs.Layout.{Asked, family_for, size_of, packet_in, packet_of}
+use Rattle.wire.specs.declared.Family.{Family}
+use Rattle.wire.specs.declared.Family.TheVariants.{Four, Six}
+use Rattle.build.specs.Layout.{Asked, header_size, datagram_size, family_for, size_of, packet_in, packet_of}
 use Rattle.build.specs.Places.{Fits, places_in}
-use Rattle.build.specs.Build.{neither, unfit, build_rules, refusal, done, built_of}
+use Rattle.build.specs.Build.{neither, unfit, misfit, build_rules, refusal, done, built_of}
 use Rattle.build.proofs.Laid.{read}
 use Rattle.build.proofs.Steps.{put_first}
-
-abbrev pub misfit : Asked → Bool
-misfit a = unfit (length a.source) (length a.destination) (length a.body)
-
--- ---- which addresses fit, where the source's size is right
-module _ (s d b : ℕ) (n : neither s ≡ false) where
-  pub differ : (s ≡ d → ⊥) → true ≡ unfit s d b
-  unfolding unfit
-  differ e = by_cases (neither d) (λ t. simp (n, t)) (λ t. simp (n, t, ne_eqb s d e))
-
-  pub alike : s ≡ d → ltb 1400 b ≡ unfit s d b
-  unfolding unfit
-  alike e = rw (sym e) (simp (n, eq-eqb s s refl))
 
 -- ---- refusals
 module _ (a : Asked) (buffer : List ℕ) where
@@ -80,11 +62,46 @@ at-good a buffer u z l =
     (u, (ne_eqb a.lifetime 0 z, (le-ltb (length buffer) (size_of a) l, tt)))
     ∙ ap₂ (λ (k : ℕ) (q : List ℕ). (done k, q)) n p)
 
--- ---- by the places that were worked out
-module _ (a : Asked) (m : Message) (buffer : List ℕ) (u : misfit a ≡ false) (e : m ≡ places_in (family_for a.source) (length a.body)) (l : m.end ≤ length buffer) where
-  pub asks-fill : Fits m.family a × ((m ≡ places_in m.family (length a.body)) × (length (take m.end buffer) ≡ m.end))
-  asks-fill = rw e (fits a u, (refl, length-take-le (size_of a) buffer (rw e at l)))
+-- ---- what fits
+pub fits-clear : {f : Family} {a : Asked} → Fits f a → misfit a ≡ false
+unfolding unfit
+fits-clear {f = Four} {a} h = let s = h.source in let d = h.destination in simp (s, d, le-ltb 1400 (length a.body) h.body)
+fits-clear {f = Six} {a} h = let s = h.source in let d = h.destination in simp (s, d, le-ltb 1400 (length a.body) h.body)
 
-  pub filled-good : {p : List ℕ} → (a.lifetime ≡ 0 → ⊥) → p ≡ packet_in m.family a → (done m.end, p ++ drop m.end buffer) ≡ built_of a buffer
+pub fits-family : {f : Family} {a : Asked} → Fits f a → family_for a.source ≡ f
+fits-family {f = Four} h = rw h.source
+fits-family {f = Six} h = rw h.source
+
+-- what fits neither family is refused
+pub misfits : (a : Asked) → ((f : Family) → Fits f a → ⊥) → misfit a ≡ true
+misfits a n = by_cases (misfit a) (λ t. t) (λ u. absurd (n (family_for a.source) (fits a u)))
+
+pub no-size : (a : Asked) → (length a.source ≡ 4 → ⊥) → (length a.source ≡ 16 → ⊥) → misfit a ≡ true
+no-size a x y = misfits a by
+  where
+    by : (f : Family) → Fits f a → ⊥
+    by Four h = x h.source
+    by Six h = y h.source
+
+pub unlike : (a : Asked) → (length a.destination ≡ length a.source → ⊥) → misfit a ≡ true
+unlike a n = misfits a (λ f h. n (h.destination ∙ sym h.source))
+
+pub too_long : (a : Asked) → 1400 < length a.body → misfit a ≡ true
+too_long a l = misfits a (λ f h. let b = h.body in omega arith)
+
+-- ---- the answers of a call, from what fits
+module _ {f : Family} {a : Asked} (fits : Fits f a) (buffer : List ℕ) where
+  size-is : {m : Message} → m ≡ places_in f (length a.body) → m.end ≡ size_of a
+  size-is e = ap (λ (m : Message). m.end) e ∙ ap (λ f. header_size f + datagram_size a) (sym (fits-family fits))
+
+  pub fit-spent : a.lifetime ≡ 0 → (refusal Spent, buffer) ≡ built_of a buffer
+  fit-spent = at-spent a buffer (fits-clear fits)
+
+  pub fit-room : {m : Message} → (a.lifetime ≡ 0 → ⊥) → m ≡ places_in f (length a.body) → length buffer < m.end → (refusal Room, buffer) ≡ built_of a buffer
+  fit-room z e l = at_room a buffer (fits-clear fits) z (rw (size-is e) at l)
+
+  pub fit-good : {m : Message} {p : List ℕ} → (a.lifetime ≡ 0 → ⊥) → m ≡ places_in f (length a.body) → m.end ≤ length buffer → p ≡ packet_in f a
+      → (done m.end, p ++ drop m.end buffer) ≡ built_of a buffer
   unfolding packet_of
-  filled-good z f = rw (f, e) (at-good a buffer u z (rw e at l))
+  fit-good z e l g =
+      rw (size-is e, g, sym (fits-family fits)) (at-good a buffer (fits-clear fits) z (rw (size-is e) at l))

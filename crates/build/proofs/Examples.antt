@@ -1,7 +1,5 @@
 -- Packets built, computed from the definitions. The datagram is the paper's eleventh example, with either of its two bodies.
-use mathlib.Core.Path.{◌≡◌, refl}
-use Prim.Native.Nat.{ℕ}
-use mathlib.Core.List.{List, [], ◌∷◌, ◌++◌}
+use Rattle.std.proofs.Common.{◌≡◌, refl, ℕ, List, [], ◌∷◌, ◌++◌}
 use Rattle.verdicts.specs.declared.Verdict.TheVariants.{Place, Spent, Room}
 use Rattle.sums.specs.Total.{weigh}
 use Rattle.sums.specs.Fold.{fold}

@@ -1,15 +1,5 @@
 -- A packet laid out, read by the places that judge, mender and edits go by.
-use mathlib.Core.Path.{◌≡◌, refl, sym, ap, ap₂, ◌∙◌}
-use mathlib.Core.Logic.{inl, inr}
-use Prim.Native.Nat.{ℕ, ◌+◌, ◌-◌, ◌<◌}
-use native.Mathlib.Omega.{arith}
-use native.Mathlib.Nat.{add-zero}
-use mathlib.Core.List.{List, ◌++◌, append_assoc}
-use mathlib.Core.Bool.{true, false, ◌||◌}
-use lib.ListN.{length, length-append, take, drop}
-use lib.Dec.{ltb, eqb}
-use lib.Seq.{take_at, drop_at, take_all, drop-drop}
-use borrow.Author.Tests.{ne_eqb, le-ltb}
+use Rattle.std.proofs.Common.{◌≡◌, refl, sym, ap, ap₂, ◌∙◌, inl, inr, ℕ, ◌+◌, ◌-◌, ◌<◌, arith, add-zero, List, ◌++◌, append_assoc, true, false, ◌||◌, length, length-append, take, drop, ltb, eqb, take_at, drop_at, take_all, drop-drop, ne_eqb, le-ltb}
 use Rattle.verdicts.specs.Rules.{IsClear}
 use Rattle.sums.specs.Total.{total}
 use Rattle.wire.specs.Bytes.{byte_at, word_at, part}

@@ -1,14 +1,5 @@
 -- The packet that is built is good by the RFCs' words, and the only one that has what was asked for.
-use mathlib.Core.Path.{◌≡◌, refl, sym, ap, ap₂, ◌∙◌}
-use mathlib.Core.Logic.{◌↔◌, ◌≢◌, inl, ⊎_elim}
-use Prim.Native.Nat.{ℕ, suc, ◌+◌, ◌-◌, ◌≤◌, ◌<◌}
-use native.Mathlib.Omega.{arith}
-use native.Mathlib.Numerals.{add-one}
-use mathlib.Core.List.{List, [], ◌∷◌, ◌++◌}
-use mathlib.Core.Bool.{true, false, true≢false}
-use lib.ListN.{length, take, drop, length-drop, take-append-drop}
-use lib.Seq.{take_all, drop-drop, drop-cons, ext_get_or}
-use borrow.Author.Tests.{eq-eqb, eqb-true}
+use Rattle.std.proofs.Common.{◌≡◌, refl, sym, ap, ap₂, ◌∙◌, ◌↔◌, ◌≢◌, inl, ⊎_elim, ℕ, suc, ◌+◌, ◌-◌, ◌≤◌, ◌<◌, arith, add-one, List, [], ◌∷◌, ◌++◌, true, false, true≢false, length, take, drop, length-drop, take-append-drop, take_all, drop-drop, drop-cons, ext_get_or, eq-eqb, eqb-true}
 use Rattle.verdicts.specs.declared.Verdict.{Verdict}
 use Rattle.verdicts.specs.declared.Verdict.TheVariants.{Good}
 use Rattle.verdicts.proofs.Calls.{call-done}
@@ -35,10 +26,11 @@ use Rattle.mend.specs.Mend.{mended_header, mended_message, mend_of}
 use Rattle.mend.proofs.Numbers.{sent-small}
 use Rattle.mend.proofs.Mending.{mend-length, good-stands}
 use Rattle.build.specs.Layout.{Asked, word, family_for, header_in, header_for, datagram_for, datagram_size, laid, packet_of}
+use Rattle.build.specs.Build.{misfit}
 use Rattle.build.specs.Reads.{Builds, Handed, Reads, Plain}
 use Rattle.build.proofs.Laid.{plan-is}
 use Rattle.build.proofs.Summed.{laid-mended, field-some}
-use Rattle.build.proofs.Answers.{misfit, fits}
+use Rattle.build.proofs.Answers.{fits}
 use Rattle.build.proofs.Promised.{fit, is, built-good, built-read}
 
 -- ---- good by the RFCs' words

@@ -1,15 +1,6 @@
 -- What is promised of a packet that is built.
-use Rattle.std.specs.Prelude.{if◌then◌else◌}
-use mathlib.Core.Path.{◌≡◌, refl, sym, ap, subst, ◌∙◌}
-use mathlib.Core.Logic.{◌↔◌, ◌⊎◌, ◌≢◌, inl, inr, ⊎_elim}
-use Prim.Native.Nat.{ℕ, ◌+◌, ◌<◌, ◌≤◌}
-use native.Mathlib.Omega.{arith}
-use mathlib.Core.List.{List, ◌++◌}
-use mathlib.Core.Bool.{true, false, ◌&&◌, ◌||◌}
-use lib.ListN.{length, take, drop}
-use lib.Dec.{ltb, eqb}
-use lib.Seq.{take_at}
-use borrow.Author.Tests.{ltb-false, eqb-true, eqb-false}
+use Rattle.std.proofs.Common.{if◌then◌else◌, ◌≡◌, refl, sym, ap, subst, ◌∙◌, ◌↔◌, ◌⊎◌, ◌≢◌, inl, inr, ⊎_elim, ℕ, ◌+◌, ◌<◌, ◌≤◌, arith, List, ◌++◌, true, false, ◌&&◌, ◌||◌, length, take, drop, ltb, eqb, take_at, ltb-false, eqb-true}
+use borrow.Author.Tests.{eqb-false}
 use Rattle.verdicts.specs.Rules.{Rule, verdict_by, IsClear, Comes}
 use Rattle.verdicts.specs.declared.Verdict.{Verdict}
 use Rattle.verdicts.specs.declared.Verdict.TheVariants.{Good, Unsummed}
@@ -30,13 +21,12 @@ use Rattle.mend.specs.Mend.{mended_header, mended_message, mend_of}
 use Rattle.mend.proofs.Numbers.{sent-some}
 use Rattle.mend.proofs.Mending.{mended-judged}
 use Rattle.build.specs.Layout.{Asked, asked, family_for, laid, packet_of, size_of}
-use Rattle.build.specs.Build.{neither, unfit, build_rules, refusal, done, built_of}
+use Rattle.build.specs.Build.{neither, unfit, misfit, build_rules, Built, refusal, done, verdict_in, length_in, built_of}
 use Rattle.build.specs.Reads.{Builds, Reads, Plain, build_cases}
-use Rattle.build.specs.declared.Built.{Built}
 use Rattle.build.proofs.Laid.{Read, read, start_is, protocol-is, end_is, inner-clear, silent-is, source-port-is, destination-port-is, data_is}
 use Rattle.build.proofs.Summed.{fresh-message-is, laid-mended}
 use Rattle.build.proofs.Steps.{put_first}
-use Rattle.build.proofs.Answers.{misfit, fits, packet-long, at-good}
+use Rattle.build.proofs.Answers.{fits, packet-long, at-good}
 
 -- ---- of the packet itself
 module _ (a : Asked) (u : misfit a ≡ false) where
@@ -100,19 +90,19 @@ module _ (a : Asked) (buffer : List ℕ) where
   abbrev rules : List Rule
   rules = build_rules a (length buffer)
 
-  answers : (built_of a buffer).0.verdict ≡ verdict_by rules
+  answers : verdict_in (built_of a buffer).0 ≡ verdict_by rules
   unfolding built_of
-  answers = first-map (λ (x : Built × List ℕ). x.0.verdict) rules (λ v. (refusal v, buffer)) (done (length (packet_of a)), put buffer 0 (packet_of a))
+  answers = first-map (λ (x : Built × List ℕ). verdict_in x.0) rules (λ v. (refusal v, buffer)) (done (length (packet_of a)), put buffer 0 (packet_of a))
 
   refusing : Refusals rules
   unfolding build_rules
   refusing = (omega arith, (omega arith, (omega arith, tt)))
 
   -- an answer other than good leaves the buffer, and its length is 0
-  pub build-refused : ((built_of a buffer).0.verdict ≡ Good → ⊥) → ((built_of a buffer).0.length ≡ 0) × ((built_of a buffer).1 ≡ buffer)
+  pub build-refused : (verdict_in (built_of a buffer).0 ≡ Good → ⊥) → (length_in (built_of a buffer).0 ≡ 0) × ((built_of a buffer).1 ≡ buffer)
   unfolding built_of
   build-refused =
-      first_either {A = Built × List ℕ} (λ x. (x.0.verdict ≡ Good → ⊥) → (x.0.length ≡ 0) × (x.1 ≡ buffer)) rules (λ v. (refusal v, buffer)) (done (length (packet_of a)), put buffer 0 (packet_of a))
+      first_either {A = Built × List ℕ} (λ x. (verdict_in x.0 ≡ Good → ⊥) → (length_in x.0 ≡ 0) × (x.1 ≡ buffer)) rules (λ v. (refusal v, buffer)) (done (length (packet_of a)), put buffer 0 (packet_of a))
       (λ v n. (refl, refl))
       (λ c n. absurd (n refl))
 
@@ -143,12 +133,12 @@ module _ (a : Asked) (buffer : List ℕ) where
       (λ u. next (eqb_tells a.lifetime 0, refl) (λ z. next (small-tells (length buffer) u, refl) (λ l. tt)))
 
   -- the verdict is that of the first of the request's conditions that holds
-  pub build-exactly : (v : Verdict) → ((built_of a buffer).0.verdict ≡ v) ↔ Comes (build_cases a (length buffer)) v
+  pub build-exactly : (v : Verdict) → (verdict_in (built_of a buffer).0 ≡ v) ↔ Comes (build_cases a (length buffer)) v
   build-exactly v = rw answers (told-exactly rules (build_cases a (length buffer)) told v)
 
   module _ {n : ℕ} {q : List ℕ} (e : Builds a buffer n q) where
     none : IsClear rules
-    none = verdict-clear rules refusing (sym answers ∙ ap (λ (x : Built × List ℕ). x.0.verdict) e)
+    none = verdict-clear rules refusing (sym answers ∙ ap (λ (x : Built × List ℕ). verdict_in x.0) e)
 
     pub fit : misfit a ≡ false
     unfolding build_rules
@@ -163,7 +153,7 @@ module _ (a : Asked) (buffer : List ℕ) where
     left = at-good a buffer fit (eqb-false a.lifetime 0 none.1.0) room ∙ e
 
     size : n ≡ size_of a
-    size = sym (ap (λ (x : Built × List ℕ). x.0.length) left)
+    size = sym (ap (λ (x : Built × List ℕ). length_in x.0) left)
 
     after : q ≡ packet_of a ++ drop n buffer
     after = rw size (sym (ap (λ (x : Built × List ℕ). x.1) left))

@@ -1,13 +1,5 @@
 -- The sum fields of a packet laid out: what is written over them, and what mending works out for them.
-use Rattle.std.specs.Prelude.{if◌then◌else◌}
-use mathlib.Core.Path.{◌≡◌, refl, sym, ap, ap₂, ◌∙◌}
-use mathlib.Core.Logic.{◌≢◌}
-use Prim.Native.Nat.{ℕ, suc, ◌+◌, ◌/◌, ◌%◌, ◌<◌}
-use native.Mathlib.Omega.{arith}
-use mathlib.Core.List.{List, [], ◌∷◌, ◌++◌, append_assoc}
-use mathlib.Core.Bool.{true, false, ◌&&◌, true≢false}
-use lib.ListN.{length, length-append, set}
-use lib.Seq.{take_at}
+use Rattle.std.proofs.Common.{if◌then◌else◌, ◌≡◌, refl, sym, ap, ap₂, ◌∙◌, ◌≢◌, ℕ, suc, ◌+◌, ◌/◌, ◌%◌, ◌<◌, arith, List, [], ◌∷◌, ◌++◌, append_assoc, true, false, ◌&&◌, true≢false, length, length-append, set, take_at}
 use Rattle.sums.specs.Total.{weigh, total}
 use Rattle.sums.specs.Fold.{fold, field_of}
 use Rattle.sums.proofs.Folds.{fold-as}

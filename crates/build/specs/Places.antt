@@ -32,13 +32,6 @@ places_at family header body = record {
 abbrev pub places_in : Family → ℕ → Message
 places_in family body = places_at family (header_size family) body
 
--- what laying out a header asks: addresses of the family's size, and a packet as long as the whole is to be
-pub record Lays (family : Family) (s d packet : List ℕ) : Type 0 where
-  pub source : length s ≡ address_bytes family
-  pub destination : length d ≡ address_bytes family
-  pub room : header_size family ≤ length packet
-  pub short : length packet ≤ 65535
-
--- and leaves: the header in its first bytes, with a field of 0000
-abbrev pub header_left : Family → (packet source destination : List ℕ) (lifetime : ℕ) → List ℕ
-header_left family packet source destination lifetime = put packet 0 (header_in family (length packet - header_size family) lifetime source destination 0)
+-- what laying out a header leaves: the header in a packet's first bytes, with a field of 0000
+abbrev pub header_left : Family → (packet : List ℕ) → Asked → List ℕ
+header_left family packet a = put packet 0 (header_in family (length packet - header_size family) a.lifetime a.source a.destination 0)

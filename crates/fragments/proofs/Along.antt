@@ -1,16 +1,8 @@
 -- Pieces one after another: what each adds to their shape, their filling, their bytes and their sum.
-use mathlib.Core.Path.{◌≡◌, refl, sym, ap, ◌∙◌}
-use Prim.Native.Nat.{ℕ, ◌+◌, ◌-◌, ◌%◌, ◌≤◌, ◌<◌}
-use native.Mathlib.Nat.{add-zero}
-use native.Mathlib.Numerals.{add-one}
+use Rattle.std.proofs.Common.{◌≡◌, refl, sym, ap, ◌∙◌, ℕ, ◌+◌, ◌-◌, ◌%◌, ◌≤◌, ◌<◌, add-zero, add-one, arith, List, [], ◌∷◌, ◌++◌, append-nil, true, false, true≢false, length, take, drop, get_or, length-append, drop_of_length-le, drop-cons, take_all, get_or-append-add, eqb, None, Some, eqb-true, eq-eqb, ne_eqb, lt-ltb, le-ltb}
 use native.Mathlib.Decide.{dec_lt}
-use native.Mathlib.Omega.{arith}
-use mathlib.Core.List.{List, [], ◌∷◌, ◌++◌, append-nil}
-use mathlib.Core.Bool.{true, false, true≢false}
-use lib.ListN.{length, take, drop, get_or, length-append, length-map, length-drop, drop_of_length-le, get_or-append}
-use lib.Seq.{drop-cons, take-append-le, take-append-add, take_all, take-nil, get_or-append-add}
-use lib.Dec.{eqb}
-use borrow.Author.Tests.{eqb-true, eq-eqb, ne_eqb, lt-ltb, le-ltb}
+use lib.ListN.{get_or-append}
+use lib.Seq.{take-append-le, take-append-add, take-nil}
 use Rattle.verdicts.proofs.Tests.{and-true}
 use Rattle.sums.specs.Total.{odd, weigh}
 use Rattle.sums.proofs.Totals.{weigh-even}
@@ -51,12 +43,6 @@ module _ (f p : Piece) (ps : List Piece) where
 pub shaped-none : (f : Piece) → shaped_of f [] ≡ true
 unfolding shaped_of
 shaped-none f = refl
-
-pub left-last : (b places : List ℕ) (k : ℕ) → k + 1 ≡ length places → left b places k ≡ piece_at b (get_or places k 0) ∷ []
-left-last b places k e = left-cons b places k (omega arith) ∙ ap (λ ps. piece_at b (get_or places k 0) ∷ ps) (left-none b places (k + 1) (omega arith))
-
-pub some_left : (b places : List ℕ) (k : ℕ) → k + 1 < length places → 0 < length (left b places (k + 1))
-some_left b places k l = omega (arith, length-map (drop (k + 1) places) (piece_at b), length-drop (k + 1) places)
 
 -- ---- their filling
 module _ (at : ℕ) (p : Piece) where
@@ -111,11 +97,11 @@ pub fills-none : (at : ℕ) → fills at [] ≡ true → ⊥
 unfolding fills
 fills-none at f = true≢false (sym f)
 
-pub unfilled : (ps : List Piece) → fills 0 ps ≡ false → 0 ≡ filled_of ps
+pub unfilled : (ps : List Piece) → fills 0 ps ≡ false → None ≡ filled_of ps
 unfolding filled_of
 unfilled ps f = simp f
 
-pub full : (ps : List Piece) → fills 0 ps ≡ true → length (together ps) ≡ filled_of ps
+pub full : (ps : List Piece) → fills 0 ps ≡ true → Some (length (together ps)) ≡ filled_of ps
 unfolding filled_of
 full ps f = simp f
 

@@ -1,9 +1,6 @@
 -- Three bytes of ICMP echo behind its header, in two fragments, and what the theorems' premises are for: computed from the definitions.
-use mathlib.Core.Path.{◌≡◌, refl, sym, ◌∙◌}
-use Prim.Native.Nat.{ℕ}
+use Rattle.std.proofs.Common.{◌≡◌, refl, sym, ◌∙◌, ℕ, List, [], ◌∷◌, ◌++◌, length}
 use mathlib.Core.List.Memᴰ
-use mathlib.Core.List.{List, [], ◌∷◌, ◌++◌}
-use lib.ListN.{length}
 use Rattle.verdicts.specs.declared.Verdict.TheVariants.{Good, Cut, Version, Shape, HeaderSum, MessageSum}
 use Rattle.verdicts.specs.declared.Verdict.TheVariants as verdict
 use Rattle.sums.specs.Total.{weigh}

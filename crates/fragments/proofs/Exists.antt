@@ -1,13 +1,6 @@
 -- Every list that passes the tests up to 6 has an unfragmented packet that carries the same.
-use mathlib.Core.Path.{◌≡◌, refl, ap, ◌∙◌}
-use Prim.Native.Nat.{ℕ, ◌+◌, ◌-◌, ◌/◌, ◌%◌, ◌≤◌, ◌<◌}
-use native.Mathlib.Omega.{arith}
+use Rattle.std.proofs.Common.{◌≡◌, refl, ap, ◌∙◌, ℕ, ◌+◌, ◌-◌, ◌/◌, ◌%◌, ◌≤◌, ◌<◌, arith, List, [], ◌∷◌, ◌++◌, map, true, true≢false, length, length-append, take_at, drop_at, take_all, ne_eqb, le-ltb}
 use mathlib.Core.List.Memᴰ
-use mathlib.Core.List.{List, [], ◌∷◌, ◌++◌, map}
-use mathlib.Core.Bool.{true, true≢false}
-use lib.ListN.{length, length-append}
-use lib.Seq.{take_at, drop_at, take_all}
-use borrow.Author.Tests.{ne_eqb, le-ltb}
 use Rattle.verdicts.specs.Rules.{IsClear}
 use Rattle.sums.specs.Total.{odd, total}
 use Rattle.sums.specs.Fold.{fold, field_of, passes}

@@ -1,20 +1,27 @@
 -- The verdict on sorted pieces, from their shape, their filling and their message.
-use mathlib.Core.Path.{◌≡◌, refl, sym, ap, ◌∙◌}
-use Prim.Native.Nat.{ℕ, ◌+◌, ◌≤◌}
-use native.Mathlib.Omega.{arith}
-use mathlib.Core.List.{List, [], ◌∷◌}
-use mathlib.Core.Bool.{Bool, true, false, not, ◌&&◌, ◌||◌, true≢false}
-use lib.ListN.{length}
-use lib.Dec.{eqb, ltb}
-use borrow.Author.Tests.{eqb-false, ltb-false, not-true}
+use Rattle.std.proofs.Common.{◌≡◌, refl, sym, ap, ◌∙◌, ℕ, ◌+◌, ◌≤◌, ◌<◌, arith, List, [], ◌∷◌, Bool, true, false, not, ◌&&◌, ◌||◌, true≢false, length, get_or, Option, None, Some, eqb, ltb, ltb-false}
+use borrow.Author.Tests.{not-true}
 use Rattle.verdicts.specs.Rules.{verdict_by}
 use Rattle.verdicts.specs.declared.Verdict.TheVariants.{Shape}
 use Rattle.verdicts.specs.declared.Verdict.TheVariants as verdict
 use Rattle.verdicts.proofs.Tests.{by_cases, or-false, and-true}
 use Rattle.fragments.specs.Fragments.{Piece, alike, shared_with, some_empty, some_past, fills, together, message_rules, filling_rules, pieces_rules}
-use Rattle.fragments.specs.Gathered.{shaped_of, filled_of}
+use Rattle.verdicts.specs.declared.Verdict.{Verdict}
+use Rattle.fragments.specs.Gathered.{piece_at, pieces_at, shaped_of, filled_of, message_of, AllArrived, Filled}
 use Rattle.fragments.proofs.Headers.{alike_self}
-use Rattle.fragments.proofs.Along.{fills-begin, fills-behind, fills-none, together-one, together-long}
+use Rattle.fragments.proofs.Along.{left, left-cons, fills-begin, fills-behind, fills-none, together-one, together-long}
+
+-- ---- whether they fill, and what
+pub filled-none : (ps : List Piece) → filled_of ps ≡ None → fills 0 ps ≡ false
+unfolding filled_of
+filled-none ps e = by_cases (fills 0 ps) (λ t. let n : Some (length (together ps)) ≡ None = simp t at e in (cc)) (λ f. f)
+
+pub filled-some : (ps : List Piece) (size : ℕ) → filled_of ps ≡ Some size → (fills 0 ps ≡ true) × (length (together ps) ≡ size)
+unfolding filled_of
+filled-some ps size e =
+    by_cases (fills 0 ps)
+    (λ t. let n : Some (length (together ps)) ≡ Some size = simp t at e in (t, cc))
+    (λ f. let n : ◌≡◌ {A = Option ℕ} None (Some size) = simp f at e in absurd (cc))
 
 -- ---- the three tests of shape are one
 shaped-as : (f : Piece) (ps : List Piece) → shaped_of f ps ≡ (shared_with f ps && (not (some_empty ps) && not (some_past ps)))
@@ -38,7 +45,7 @@ module _ (p : Piece) (ps : List Piece) where
   unfolding shared_with
   shapes = shaped-as p (p ∷ ps) ∙ ap (λ a. (a && shared_with p ps) && (not (some_empty (p ∷ ps)) && not (some_past (p ∷ ps)))) (alike_self p)
 
-  pub misshapen : shaped_of p (p ∷ ps) ≡ false → Shape ≡ verdict_by (pieces_rules (p ∷ ps))
+  misshapen : shaped_of p (p ∷ ps) ≡ false → Shape ≡ verdict_by (pieces_rules (p ∷ ps))
   unfolding pieces_rules filling_rules
   misshapen e =
       by_cases (shared_with p ps) (λ s.
@@ -53,26 +60,18 @@ module _ (p : Piece) (ps : List Piece) where
     none-empty : some_empty (p ∷ ps) ≡ false
     none-empty = not-true (some_empty (p ∷ ps)) (and-true (not (some_empty (p ∷ ps))) _ (and-true (shared_with p ps) _ (sym shapes ∙ e)).1).0
 
-    pub none-past : some_past (p ∷ ps) ≡ false
+    none-past : some_past (p ∷ ps) ≡ false
     none-past = not-true (some_past (p ∷ ps)) (and-true (not (some_empty (p ∷ ps))) _ (and-true (shared_with p ps) _ (sym shapes ∙ e)).1).1
 
-    -- nothing fills a message of no byte
-    unfilled : filled_of (p ∷ ps) ≡ 0 → fills 0 (p ∷ ps) ≡ false
-    unfolding filled_of some_empty
-    unfilled z =
-        let o = or-false (eqb (length p.bytes) 0) (some_empty ps) none-empty in
-        by_cases (fills 0 (p ∷ ps)) (λ t. let n : length (together (p ∷ ps)) ≡ 0 = simp t at z in absurd (eqb-false (length p.bytes) 0 o.0 (omega (arith, n, together-long p ps)))) (λ f. f)
-
-    pub unfit : filled_of (p ∷ ps) ≡ 0 → verdict.Fragment ≡ verdict_by (pieces_rules (p ∷ ps))
+    unfit : filled_of (p ∷ ps) ≡ None → verdict.Fragment ≡ verdict_by (pieces_rules (p ∷ ps))
     unfolding pieces_rules filling_rules
-    unfit z = simp (shared, none-empty, none-past, unfilled z)
+    unfit z = simp (shared, none-empty, none-past, filled-none (p ∷ ps) z)
 
-    module _ (n : filled_of (p ∷ ps) ≡ 0 → ⊥) where
-      pub fit : fills 0 (p ∷ ps) ≡ true
-      unfolding filled_of
-      fit = by_cases (fills 0 (p ∷ ps)) (λ t. t) (λ f. absurd (n (simp f)))
+    module _ (size : ℕ) (f : filled_of (p ∷ ps) ≡ Some size) where
+      fit : fills 0 (p ∷ ps) ≡ true
+      fit = (filled-some (p ∷ ps) size f).0
 
-      pub messaged : verdict_by (message_rules p.protocol p.addresses (together (p ∷ ps))) ≡ verdict_by (pieces_rules (p ∷ ps))
+      messaged : verdict_by (message_rules p.protocol p.addresses (together (p ∷ ps))) ≡ verdict_by (pieces_rules (p ∷ ps))
       unfolding pieces_rules filling_rules
       messaged = simp (shared, none-empty, none-past, fit)
 
@@ -86,3 +85,40 @@ filled-short at (p ∷ []) e s =
 filled-short at (p ∷ q ∷ ps) e s =
     let o = or-false (ltb 65515 (p.begin + length p.bytes)) (some_past (q ∷ ps)) s in
     omega (arith, together-long p (q ∷ ps), filled-short (at + length p.bytes) (q ∷ ps) (fills-behind at p q ps e).fills o.1)
+
+-- ---- those at some places
+module _ (b places : List ℕ) (some : 0 < length places) where
+  abbrev P : Piece
+  P = piece_at b (get_or places 0 0)
+
+  here : pieces_at b places ≡ P ∷ left b places 1
+  here = left-cons b places 0 some
+
+  of_all : {v : Verdict} → v ≡ verdict_by (pieces_rules (P ∷ left b places 1)) → v ≡ verdict_by (pieces_rules (pieces_at b places))
+  of_all e = e ∙ ap (λ ps. verdict_by (pieces_rules ps)) (sym here)
+
+  pub misshapen-at : shaped_of P (pieces_at b places) ≡ false → Shape ≡ verdict_by (pieces_rules (pieces_at b places))
+  misshapen-at e = of_all (misshapen P _ (sym (ap (shaped_of P) here) ∙ e))
+
+  module _ (e : shaped_of P (pieces_at b places) ≡ true) where
+    shape : shaped_of P (P ∷ left b places 1) ≡ true
+    shape = sym (ap (shaped_of P) here) ∙ e
+
+    pub unfit-at : filled_of (pieces_at b places) ≡ None → verdict.Fragment ≡ verdict_by (pieces_rules (pieces_at b places))
+    unfit-at z = of_all (unfit P _ shape (sym (ap filled_of here) ∙ z))
+
+    module _ (size : ℕ) (f : filled_of (pieces_at b places) ≡ Some size) where
+      pub message-at : message_of b places P.protocol ≡ verdict_by (pieces_rules (pieces_at b places))
+      unfolding message_of
+      message-at = of_all (ap (λ ps. verdict_by (message_rules P.protocol P.addresses (together ps))) here ∙ messaged P _ shape size (sym (ap filled_of here) ∙ f))
+
+      pub filled-at : AllArrived b places → Filled b places size
+      filled-at a =
+          let k = filled-some _ size f in
+          record {
+            arrived = a;
+            some = some;
+            fills = k.0;
+            long = k.1;
+            short = omega (arith, k.1, filled-short 0 (pieces_at b places) k.0 (ap some_past here ∙ none-past P _ shape));
+          }

@@ -1,32 +1,16 @@
--- What is read of the packet at a place, in the buffer's own numbers.
-use mathlib.Core.Path.{◌≡◌, refl, sym, subst, ap, ap₂, ◌∙◌}
-use Prim.Native.Nat.{ℕ, zero, suc, ◌+◌, ◌-◌, ◌*◌, ◌%◌, ◌/◌, ◌≤◌, ◌<◌}
-use native.Mathlib.Omega.{arith}
+-- What is read of a packet that has arrived.
+use Rattle.std.proofs.Common.{◌≡◌, refl, sym, ap, ap₂, ◌∙◌, ℕ, zero, suc, ◌+◌, ◌*◌, ◌%◌, ◌≤◌, ◌<◌, arith, List, [], ◌∷◌, true, true≢false, length, drop, length-take, ext_get_or, eqb, eqb-true, eq-eqb}
 use native.Mathlib.Decide.{dec_lt}
-use native.Mathlib.Nat.{add-zero, add_assoc}
-use mathlib.Core.List.{List, [], ◌∷◌}
-use mathlib.Core.Bool.{true, ◌&&◌, true≢false}
-use lib.ListN.{length, take, drop, length-take, length-drop, get_or-eq_default}
-use lib.Seq.{get_or-drop, drop-drop, ext_get_or}
-use lib.Dec.{eqb}
-use borrow.Author.Tests.{eqb-true, eqb-false, eq-eqb}
+use lib.ListN.{get_or-eq_default}
+use borrow.Author.Tests.{eqb-false}
 use Rattle.verdicts.proofs.Tests.{by_cases, and-true}
 use Rattle.sums.specs.Low.{two_at, four_at, eight_at}
 use Rattle.wire.specs.Bytes.{byte_at, word_at, Bytes, part}
-use Rattle.wire.specs.Outer.{header_end, declared_end}
+use Rattle.verdicts.specs.Rules.{IsClear}
+use Rattle.wire.specs.Outer.{four, header_end, declared_end, outer_rules}
 use Rattle.wire.proofs.Facts.{outer-facts}
 use Rattle.wire.proofs.Parts.{part_length, part-byte}
 use Rattle.fragments.specs.Fragments.{Piece, piece_of, equal, alike}
-use Rattle.fragments.specs.Gathered.{piece_at, Arrived}
-
-pub byte-drop : (b : List ℕ) (a i : ℕ) → byte_at (drop a b) i ≡ byte_at b (a + i)
-byte-drop b a i = get_or-drop a b i 0
-
-pub word-drop : (b : List ℕ) (a i : ℕ) → word_at (drop a b) i ≡ word_at b (a + i)
-word-drop b a i = ap₂ (λ x y. x * 256 + y) (byte-drop b a i) (byte-drop b a (i + 1) ∙ rw add_assoc)
-
-pub part-drop : (b : List ℕ) (a i n : ℕ) → part (drop a b) i n ≡ part b (a + i) n
-part-drop b a i n = ap (take n) (drop-drop i a b)
 
 pub part_bytes : (b : List ℕ) (a n : ℕ) → Bytes b → Bytes (part b a n)
 part_bytes b a n bytes i = elim (dec_lt i n) [
@@ -35,60 +19,24 @@ part_bytes b a n bytes i = elim (dec_lt i n) [
 ]
 
 -- where its header and its declared length end
-pub record Ends (b : List ℕ) (at : ℕ) : Type 0 where
-  pub header : header_end (drop at b) ≡ byte_at b at % 16 * 4
-  pub declared : declared_end (drop at b) ≡ word_at b (at + 2)
-  pub least : 20 ≤ header_end (drop at b)
-  pub order : header_end (drop at b) ≤ declared_end (drop at b)
-  pub whole : at + declared_end (drop at b) ≤ length b
+pub record Ends (p : List ℕ) : Type 0 where
+  pub header : header_end p ≡ byte_at p 0 % 16 * 4
+  pub declared : declared_end p ≡ word_at p 2
+  pub least : 20 ≤ header_end p
+  pub order : header_end p ≤ declared_end p
+  pub whole : declared_end p ≤ length p
 
-pub ends : {b : List ℕ} {at : ℕ} → Arrived b at → Ends b at
-unfolding header_end declared_end
-ends {b} {at} a =
-    let k = outer-facts (drop at b) a.outer in
-    let l = length-drop at b in
-    let i = a.inside in
-    record {
-      header = simp a.four (ap (λ x. x % 16 * 4) (byte-drop b at 0 ∙ ap (byte_at b) (add-zero at)));
-      declared = simp a.four (word-drop b at 2);
-      least = k.least;
-      order = k.order;
-      whole = let w = k.whole in omega arith;
-    }
+module _ (p : List ℕ) (f : four p ≡ true) (w : IsClear (outer_rules p)) where
+  pub ends : Ends p
+  unfolding header_end declared_end
+  ends = let k = outer-facts p w in record { header = simp f; declared = simp f; least = k.least; order = k.order; whole = k.whole }
 
--- its piece, number by number
-module _ (b : List ℕ) (at : ℕ) where
-  pub begin-at : (piece_at b at).begin ≡ 8 * (word_at b (at + 6) % 8192)
+  pub long : 20 ≤ length p
+  long = let e = ends in omega arith
+
+  pub addresses-long : length (piece_of p).addresses ≡ 8
   unfolding piece_of
-  begin-at = ap (λ w. 8 * (w % 8192)) (word-drop b at 6)
-
-  pub more-at : (piece_at b at).more ≡ eqb (word_at b (at + 6) / 8192 % 2) 1
-  unfolding piece_of
-  more-at = ap (λ w. eqb (w / 8192 % 2) 1) (word-drop b at 6)
-
-  pub identification-at : (piece_at b at).identification ≡ word_at b (at + 4)
-  unfolding piece_of
-  identification-at = word-drop b at 4
-
-  pub protocol-at : (piece_at b at).protocol ≡ byte_at b (at + 9)
-  unfolding piece_of
-  protocol-at = byte-drop b at 9
-
-  pub addresses-at : (piece_at b at).addresses ≡ part b (at + 12) 8
-  unfolding piece_of
-  addresses-at = part-drop b at 12 8
-
-  pub bytes-at : (piece_at b at).bytes ≡ part b (at + header_end (drop at b)) (declared_end (drop at b) - header_end (drop at b))
-  unfolding piece_of
-  bytes-at = part-drop b at (header_end (drop at b)) (declared_end (drop at b) - header_end (drop at b))
-
-  pub size-at : Arrived b at → length (piece_at b at).bytes ≡ declared_end (drop at b) - header_end (drop at b)
-  size-at a =
-      let e = ends a in
-      ap length bytes-at ∙ part_length b (at + header_end (drop at b)) (declared_end (drop at b) - header_end (drop at b)) (let w = e.whole in let o = e.order in omega arith)
-
-pub addresses-long : {b : List ℕ} {at : ℕ} → Arrived b at → length (piece_at b at).addresses ≡ 8
-addresses-long {b} {at} a = let e = ends a in ap length (addresses-at b at) ∙ part_length b (at + 12) 8 (omega arith)
+  addresses-long = let l = long in part_length p 12 8 (omega arith)
 
 -- ---- addresses compared as one number
 pub equal-same : (xs : List ℕ) → equal xs xs ≡ true
@@ -172,16 +120,7 @@ pub alike_self : (p : Piece) → alike p p ≡ true
 unfolding alike
 alike_self p = simp (eq-eqb p.identification p.identification refl, eq-eqb p.protocol p.protocol refl, equal-same p.addresses)
 
-module _ (b : List ℕ) (a c : ℕ) where
-  pub alike_at : alike (piece_at b a) (piece_at b c)
-      ≡ (eqb (word_at b (a + 4)) (word_at b (c + 4)) && (eqb (byte_at b (a + 9)) (byte_at b (c + 9)) && equal (piece_at b a).addresses (piece_at b c).addresses))
-  unfolding alike
-  alike_at =
-      ap₂ (λ x y. x && (y && equal (piece_at b a).addresses (piece_at b c).addresses))
-      (ap₂ eqb (identification-at b a) (identification-at b c)) (ap₂ eqb (protocol-at b a) (protocol-at b c))
-
-  pub addresses-alike : Bytes b → Arrived b a → Arrived b c → eqb (eight_at (piece_at b a).addresses 0) (eight_at (piece_at b c).addresses 0) ≡ equal (piece_at b a).addresses (piece_at b c).addresses
-  addresses-alike bytes x y = addresses-equal _ _ (small a) (small c) (addresses-long x) (addresses-long y)
-    where
-      small : (at : ℕ) → Bytes (piece_at b at).addresses
-      small at = subst Bytes (sym (addresses-at b at)) (part_bytes b (at + 12) 8 bytes)
+pub addresses-alike : (p q : List ℕ) → Bytes p → Bytes q → length (piece_of p).addresses ≡ 8 → length (piece_of q).addresses ≡ 8
+    → eqb (eight_at (piece_of p).addresses 0) (eight_at (piece_of q).addresses 0) ≡ equal (piece_of p).addresses (piece_of q).addresses
+unfolding piece_of
+addresses-alike p q x y k l = addresses-equal _ _ (part_bytes p 12 8 x) (part_bytes q 12 8 y) k l

@@ -1,12 +1,5 @@
 -- Each verdict on a message, from the facts that lead to it.
-use Rattle.std.specs.Prelude.{if◌then◌else◌}
-use mathlib.Core.Path.{◌≡◌, refl, sym, ap, ◌∙◌}
-use Prim.Native.Nat.{ℕ, ◌+◌, ◌*◌, ◌%◌, ◌≤◌, ◌<◌}
-use native.Mathlib.Omega.{arith}
-use mathlib.Core.List.{List, [], ◌∷◌, ◌++◌}
-use mathlib.Core.Bool.{Bool, true, false, not}
-use lib.ListN.{length, take, length-append}
-use borrow.Author.Tests.{lt-ltb, le-ltb, ne_eqb}
+use Rattle.std.proofs.Common.{if◌then◌else◌, ◌≡◌, refl, sym, ap, ◌∙◌, ℕ, ◌+◌, ◌*◌, ◌%◌, ◌≤◌, ◌<◌, arith, List, [], ◌∷◌, ◌++◌, Bool, true, false, not, length, take, get_or, length-append, lt-ltb, le-ltb, ne_eqb}
 use Rattle.verdicts.specs.Rules.{◌⇒◌, verdict_by}
 use Rattle.verdicts.specs.declared.Verdict.{Verdict}
 use Rattle.verdicts.specs.declared.Verdict.TheVariants.{Good, Shape, Uncovered, Unsummed, MessageSum}
@@ -19,6 +12,8 @@ use Rattle.wire.specs.Table.{row_of, uncovered}
 use Rattle.wire.specs.Messages.{plan_in, said_in, end_in, silent_in, shape_rules, rest_in, covered_in}
 use Rattle.wire.specs.declared.Family.TheVariants.{Four}
 use Rattle.fragments.specs.Fragments.{message_rules}
+use Rattle.fragments.specs.Gathered.{piece_at, Filled}
+use Rattle.fragments.proofs.Headers.{addresses-long}
 
 -- a block with what stands before it, summed low byte first
 pub passes-behind : (xs ys : List ℕ) (s r : ℕ) → length xs % 2 ≡ 0 → fold s ≡ fold (256 * total xs) → fold r ≡ fold (s + weigh true ys) → passes r ≡ passes (total (xs ++ ys))
@@ -27,10 +22,16 @@ passes-behind xs ys s r v e f =
     let w : total (xs ++ ys) ≡ total xs + total ys = weigh-even false xs ys (ne_eqb (length xs % 2) 1 (λ z. absurd (omega arith))) in
     passes-low r (total (xs ++ ys)) (f ∙ fold-sum s (256 * total xs) (weigh true ys) (256 * total ys) e (low-times ys) ∙ ap fold (omega (arith, w)))
 
-pub passes-pseudo : (n : ℕ) (xs d : List ℕ) (size s r : ℕ) → length xs ≡ 8 → length d ≡ size
+passes-pseudo : (n : ℕ) (xs d : List ℕ) (size s r : ℕ) → length xs ≡ 8 → length d ≡ size
     → fold s ≡ fold (256 * total (xs ++ rest_in Four n size)) → fold r ≡ fold (s + weigh true d) → passes r ≡ passes (total ((xs ++ rest_in Four n (length d)) ++ d))
 passes-pseudo n xs d size s r l k e f =
     passes-behind (xs ++ rest_in Four n (length d)) d s r (omega (arith, length-append xs (rest_in Four n (length d)))) (e ∙ ap (λ i. fold (256 * total (xs ++ rest_in Four n i))) (sym k)) f
+
+-- with the addresses of the first of those that fill a message
+pub passes-first : (n : ℕ) {b places : List ℕ} {all : ℕ} → Filled b places all → (d : List ℕ) (size s r : ℕ) → length d ≡ size
+    → fold s ≡ fold (256 * total ((piece_at b (get_or places 0 0)).addresses ++ rest_in Four n size)) → fold r ≡ fold (s + weigh true d)
+    → passes r ≡ passes (total (((piece_at b (get_or places 0 0)).addresses ++ rest_in Four n (length d)) ++ d))
+passes-first n k d size s r l e f = let a = k.arrived 0 k.some in passes-pseudo n _ d size s r (addresses-long _ a.four a.outer) l e f
 
 module _ (n : ℕ) (addresses m : List ℕ) where
   abbrev answer : Verdict

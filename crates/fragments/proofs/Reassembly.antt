@@ -1,15 +1,9 @@
 -- The message put together, in RFC 791's words: it is the one string in which each fragment's bytes stand at 8 times its offset, and which ends with the
 -- fragment that none follows.
-use mathlib.Core.Path.{◌≡◌, refl, sym, ap, ap₂, ◌∙◌}
-use mathlib.Core.Logic.{◌↔◌}
-use Prim.Native.Nat.{ℕ, ◌+◌, ◌-◌, ◌≤◌}
-use native.Mathlib.Omega.{arith}
+use Rattle.std.proofs.Common.{◌≡◌, refl, sym, ap, ap₂, ◌∙◌, ◌↔◌, ℕ, ◌+◌, ◌-◌, ◌≤◌, arith, List, [], ◌∷◌, ◌++◌, map, append-nil, true, false, not, true≢false, length, take, drop, length-append, length-drop, take-append-drop, take_all, drop-drop, eqb}
 use mathlib.Core.List.Memᴰ
-use mathlib.Core.List.{List, [], ◌∷◌, ◌++◌, map, append-nil, Memᴰ}
-use mathlib.Core.Bool.{true, false, not, true≢false}
-use lib.ListN.{length, take, drop, length-append, length-drop, take-append-drop}
-use lib.Seq.{take_all, drop-drop, take-append_seam, drop-append-add}
-use lib.Dec.{eqb}
+use mathlib.Core.List.{Memᴰ}
+use lib.Seq.{take-append_seam, drop-append-add}
 use borrow.Author.Tests.{not-true, not-false}
 use Rattle.verdicts.specs.Rules.{IsClear}
 use Rattle.verdicts.proofs.Tests.{and-true}

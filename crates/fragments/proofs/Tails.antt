@@ -1,12 +1,5 @@
 -- A record's packet, and the one that begins there and has the rest of the buffer for a tail: their pieces are the same.
-use mathlib.Core.Path.{◌≡◌, sym, ap, ◌∙◌}
-use Prim.Native.Nat.{ℕ, ◌+◌, ◌-◌, ◌/◌, ◌≤◌}
-use native.Mathlib.Omega.{arith}
-use mathlib.Core.List.{List}
-use mathlib.Core.Bool.{true, true≢false}
-use lib.ListN.{length, drop, length-drop}
-use lib.Seq.{length-take-le, get_or-take}
-use lib.Dec.{eqb}
+use Rattle.std.proofs.Common.{◌≡◌, sym, ap, ◌∙◌, ℕ, ◌+◌, ◌-◌, ◌/◌, ◌≤◌, arith, List, true, true≢false, length, drop, length-drop, length-take-le, get_or-take, eqb}
 use Rattle.verdicts.specs.Rules.{IsClear}
 use Rattle.verdicts.proofs.Rules.{clear_both}
 use Rattle.verdicts.proofs.Tests.{by_cases}

@@ -1,14 +1,8 @@
 -- The fragments' message is judged as an unfragmented packet's: where both pass the tests up to 6, the answer is the judge's verdict on that packet.
-use mathlib.Core.Path.{◌≡◌, refl, sym, ap, ◌∙◌}
-use Prim.Native.Nat.{ℕ, ◌+◌, ◌-◌, ◌*◌, ◌/◌, ◌%◌, ◌≤◌, ◌<◌}
-use native.Mathlib.Omega.{arith}
+use Rattle.std.proofs.Common.{◌≡◌, refl, sym, ap, ◌∙◌, ℕ, ◌+◌, ◌-◌, ◌*◌, ◌/◌, ◌%◌, ◌≤◌, ◌<◌, arith, List, [], ◌∷◌, ◌++◌, map, append-nil, append_assoc, Bool, true, false, not, ◌&&◌, ◌||◌, length, take, drop, length-take, take-take, eqb, le-ltb, eqb-true, eq-eqb, ne_eqb}
 use mathlib.Core.List.Memᴰ
-use mathlib.Core.List.{List, [], ◌∷◌, ◌++◌, map, append-nil, append_assoc, Memᴰ}
-use mathlib.Core.Bool.{Bool, true, false, not, ◌&&◌, ◌||◌}
-use lib.ListN.{length, take, drop, length-take}
-use lib.Seq.{take-take}
-use lib.Dec.{eqb}
-use borrow.Author.Tests.{le-ltb, eqb-true, eqb-false, eq-eqb, ne_eqb, not-false}
+use mathlib.Core.List.{Memᴰ}
+use borrow.Author.Tests.{eqb-false, not-false}
 use Rattle.verdicts.specs.Rules.{Rule, verdict_by, IsClear}
 use Rattle.verdicts.specs.declared.Verdict.TheVariants.{Good}
 use Rattle.verdicts.specs.declared.Verdict.TheVariants as verdict

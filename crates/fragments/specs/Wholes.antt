@@ -1,6 +1,6 @@
 -- What the theorems on fragments speak of: a list that passes the tests up to 6, and an unfragmented packet that carries the same.
-use Rattle.std.specs.Prelude.{◌≡◌, ℕ, ◌+◌, ◌≤◌, ◌<◌, true, false, length}
-use mathlib.Core.List.{List, Memᴰ}
+use Rattle.std.specs.Prelude.{◌≡◌, ℕ, ◌+◌, ◌≤◌, ◌<◌, true, false, length, List}
+use mathlib.Core.List.{Memᴰ}
 use Rattle.verdicts.specs.Rules.{IsClear}
 use Rattle.wire.specs.Bytes.{part}
 use Rattle.wire.specs.Outer.{four, next_of, fragment_of, outer_rules}
