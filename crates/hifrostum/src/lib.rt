@@ -20,10 +20,12 @@ ghost use Rattle.kept.specs.Prefix.{prefix_of};
 ghost use Rattle.capture.specs.Judged.{judged_of};
 ghost use Rattle.build.specs.Layout.{asked};
 ghost use Rattle.build.specs.Build.{built_of};
-ghost use Rattle.hifrostum.specs.Answers.{numbered, counted, summed, built};
+ghost use Rattle.hifrostum.specs.Answers.{numbered, counted, summed, chained, built};
 
+use build::Udp;
 use fragments::Fragment;
 use sums::{Field, Fold, Partial};
+use verdicts::Verdict;
 
 // The verdict on a packet.
 pub fn hifrostum_judge(packet: &[u8]) -> u8
@@ -36,42 +38,42 @@ pub fn hifrostum_judge(packet: &[u8]) -> u8
 pub fn hifrostum_judge_fragments(buffer: &[u8], list: &[Fragment]) -> u8
     ensures { result ≡ number_of (fragments_of buffer.now list.now) }
 {
-    verdicts::number(fragments::judge_fragments(buffer, list))
+    u8::from(fragments::judge_fragments(buffer, list))
 }
 
 // Sets a packet's sum fields fresh.
 pub fn hifrostum_mend(packet: &mut [u8]) -> u8
     ensures { (result, packet.new) ≡ numbered (mend_of packet.old) }
 {
-    verdicts::number(mend::mend(packet))
+    u8::from(mend::mend(packet))
 }
 
 // Lowers a packet's lifetime by one.
 pub fn hifrostum_lower_lifetime(packet: &mut [u8]) -> u8
     ensures { (result, packet.new) ≡ numbered (lifetime_of packet.old) }
 {
-    verdicts::number(edit::lower_lifetime(packet))
+    u8::from(edit::lower_lifetime(packet))
 }
 
 // Sets the source (side 0) or the destination (side 1).
 pub fn hifrostum_set_address(packet: &mut [u8], side: u32, address: &[u8]) -> u8
     ensures { (result, packet.new) ≡ numbered (address_of packet.old side address.now) }
 {
-    verdicts::number(edit::set_address(packet, side, address))
+    u8::from(edit::set_address(packet, side, address))
 }
 
 // Sets bytes of the body from a place on.
 pub fn hifrostum_set_stretch(packet: &mut [u8], place: usize, bytes: &[u8]) -> u8
     ensures { (result, packet.new) ≡ numbered (stretch_of packet.old place bytes.now) }
 {
-    verdicts::number(edit::set_stretch(packet, place, bytes))
+    u8::from(edit::set_stretch(packet, place, bytes))
 }
 
 // Exchanges the prefix of the source (side 0) or of the destination (side 1).
 pub fn hifrostum_exchange_prefix(packet: &mut [u8], side: u32, expected: &[u8], new: &[u8]) -> u8
     ensures { (result, packet.new) ≡ numbered (prefix_of packet.old side expected.now new.now) }
 {
-    verdicts::number(prefix::exchange_prefix(packet, side, expected, new))
+    u8::from(prefix::exchange_prefix(packet, side, expected, new))
 }
 
 // Builds a UDP packet in a buffer's first bytes.
@@ -87,18 +89,24 @@ pub fn hifrostum_build_udp(
 ) -> u8
     ensures { (result, (length.new, buffer.new)) ≡ built (built_of (asked source.now destination.now source_port destination_port lifetime body.now) buffer.old) }
 {
-    let built = build::build_udp(
+    let udp = Udp {
         source,
         destination,
         source_port,
         destination_port,
         lifetime,
         body,
-        buffer,
-    );
-    let v = built.verdict;
-    *length = built.length;
-    verdicts::number(v)
+    };
+    match build::build_udp(&udp, buffer) {
+        Ok(size) => {
+            *length = size;
+            u8::from(Verdict::Good)
+        }
+        Err(v) => {
+            *length = 0;
+            u8::from(v)
+        }
+    }
 }
 
 // One verdict number for each record of a capture.
@@ -106,20 +114,24 @@ pub fn hifrostum_judge_capture(capture: &[u8], verdicts: &mut [u8], count: &mut 
     ensures { (result, (count.new, verdicts.new)) ≡ counted (judged_of capture.now verdicts.old) }
 {
     let judged = capture::judge_capture(capture, verdicts);
-    let v = judged.verdict;
-    *count = judged.count;
-    verdicts::number(v)
+    *count = judged.unwrap_or(0);
+    u8::from(judged.err().unwrap_or(Verdict::Good))
 }
 
 // The partial sum of a chain of pieces of a buffer.
 pub fn hifrostum_sum_chain(buffer: &[u8], pieces: &[u32], fold: &mut u16, length: &mut u64) -> u8
-    ensures { (result, (fold.new, length.new)) ≡ summed (chain_of buffer.now pieces.now) }
+    ensures { (result, (fold.new, length.new)) ≡ chained (chain_of buffer.now pieces.now) }
 {
-    let chained = chain::chain(buffer, pieces);
-    let v = chained.verdict;
-    *fold = chained.sum.fold.0;
-    *length = chained.sum.length;
-    verdicts::number(v)
+    match chain::chain(buffer, pieces) {
+        Ok(chained) => hand_back(Verdict::Good, chained, fold, length),
+        Err(verdict) => {
+            let nothing = Partial {
+                fold: Fold(0),
+                length: 0,
+            };
+            hand_back(verdict, nothing, fold, length)
+        }
+    }
 }
 
 // The partial sum of A's bytes followed by B's, or A's where the lengths together pass the 64-bit range.
@@ -141,11 +153,19 @@ pub fn hifrostum_join(
         fold: Fold(fold_b),
         length: length_b,
     };
-    let joined = folds::join(a, b);
-    let v = joined.verdict;
-    *fold = joined.sum.fold.0;
-    *length = joined.sum.length;
-    verdicts::number(v)
+    match folds::join(a, b) {
+        Ok(joined) => hand_back(Verdict::Good, joined, fold, length),
+        Err(refused) => hand_back(refused.verdict, refused.left, fold, length),
+    }
+}
+
+// A sum through C's pointers, and the number of the verdict beside it.
+fn hand_back(verdict: Verdict, sum: Partial, fold: &mut u16, length: &mut u64) -> u8
+    ensures { (result ≡ number_of verdict) × (fold.new ≡ sum.fold.0) × (length.new ≡ sum.length) }
+{
+    *fold = sum.fold.0;
+    *length = sum.length;
+    u8::from(verdict)
 }
 
 // The field of a block.

@@ -18,7 +18,7 @@ ghost use Rattle.kept.specs.Prefix.{prefix_of};
 ghost use Rattle.capture.specs.Judged.{judged_of};
 ghost use Rattle.build.specs.Layout.{asked};
 ghost use Rattle.build.specs.Build.{built_of};
-ghost use Rattle.hifrostum.specs.Answers.{numbered, counted, summed, built};
+ghost use Rattle.hifrostum.specs.Answers.{numbered, counted, summed, chained, built};
 
 use fragments::Fragment;
 
@@ -129,7 +129,7 @@ pub extern "C" fn hifrostum_sum_chain(
     fold: &mut u16,
     length: &mut u64,
 ) -> u8
-    ensures { (result, (fold.new, length.new)) ≡ summed (chain_of buffer.now pieces.now) }
+    ensures { (result, (fold.new, length.new)) ≡ chained (chain_of buffer.now pieces.now) }
 {
     hifrostum::hifrostum_sum_chain(buffer, pieces, fold, length)
 }

@@ -6,66 +6,37 @@
 #![tactic(auto)]
 
 mod answers;
+mod buffers;
 mod cases;
+mod error;
 mod operation;
-mod print;
+mod shown;
 
 use answers::answer;
-use cases::{LARGEST, Next, Sizes, lay, next_case, payloads};
-use print::print;
+use buffers::Buffers;
+use cases::Cases;
+use error::Error;
 use std::io;
 use std::io::Read;
 
-#[derive(Clone, Copy)]
-enum Step {
-    On(Sizes),
-    Done,
+fn main(rt: HostRuntime) -> io::Result<()> {
+    match answer_all(&rt, rt.stdin()) {
+        Err(Error::Malformed) => println!(rt; "bad case"),
+        Err(Error::Io(error)) => Err(error),
+        Ok(()) => Ok(()),
+    }
 }
 
-fn main(rt: HostRuntime) -> io::Result<()> {
-    let mut input = rt.stdin();
-    let mut buffer = [0u8; LARGEST];
-    let mut given = [0u8; LARGEST];
-    let mut second = [0u8; LARGEST];
-    let mut sizes = Sizes {
-        buffer: 0,
-        given: 0,
-    };
+// Reads case after case, and prints the answer to each. A malformed case ends the answers.
+fn answer_all(rt: &(impl Print + AllocGlobal), input: impl Read + Drop) -> Result<(), Error> {
+    let mut cases = Cases::new(rt.alloc(), input);
+    let mut buffers = Buffers::new(rt.alloc());
     for _ in 0..u64::MAX {
-        let step = turn(&rt, &mut input, sizes, &mut buffer, &mut given, &mut second)?;
-        let Step::On(next) = step else {
-            return Ok(());
+        let Some(case) = cases.next()? else {
+            break;
         };
-        sizes = next;
+        let buffer = buffers.lay(case.source, case.one)?;
+        answer(rt, case.operation, buffer, &case.two)?;
     }
     Ok(())
-}
-
-// One case: it is read, and its answer is printed. A malformed case ends the answers.
-fn turn(
-    rt: &impl Print,
-    input: &mut impl Read,
-    sizes: Sizes,
-    buffer: &mut [u8; LARGEST],
-    given: &mut [u8; LARGEST],
-    second: &mut [u8; LARGEST],
-) -> io::Result<Step> {
-    let next = next_case(input)?;
-    match next {
-        Next::Case(case) => {
-            if payloads(input, case, given, second)? {
-                let sizes = lay(case, sizes, buffer, given);
-                answer(rt, case, sizes.buffer, buffer, second)?;
-                return Ok(Step::On(sizes));
-            }
-            bad(rt)
-        }
-        Next::End => Ok(Step::Done),
-        Next::Bad => bad(rt),
-    }
-}
-
-fn bad(rt: &impl Print) -> io::Result<Step> {
-    print(rt, b"bad case\n")?;
-    Ok(Step::Done)
 }

@@ -1,32 +1,129 @@
-// The operations, by their numbers.
-pub const JUDGE: u8 = 0;
+// What a case asks for.
+ghost use Rattle.std.specs.Prelude.{◌<◌};
 
-pub const MEND: u8 = 1;
+use crate::cases::LARGEST;
+use crate::error::Error;
+use sums::{Field, Fold};
 
-pub const LIFETIME: u8 = 2;
+// The bytes of a 32-bit number, of a partial sum (a 16-bit fold and a 64-bit length), and of a fragment's record (a 64-bit
+// offset and a 64-bit length).
+const NUMBER: u64 = 4;
 
-pub const ADDRESS: u8 = 3;
+const SUM: u64 = 10;
 
-pub const STRETCH: u8 = 4;
+const RECORD: u64 = 16;
 
-pub const CAPTURE: u8 = 5;
+// Which bytes are the buffer: payload one, or what the case before left, or the last one given.
+#[derive(Clone, Copy)]
+pub enum Source {
+    Given,
+    Left,
+    Again,
+}
 
-pub const CHAIN: u8 = 6;
+impl TryFrom<u8> for Source {
+    type Error = Error;
 
-pub const PARTIAL: u8 = 7;
+    fn try_from(code: u8) -> Result<Self, Error> {
+        match code {
+            0 => Ok(Source::Given),
+            1 => Ok(Source::Left),
+            2 => Ok(Source::Again),
+            _ => Err(Error::Malformed),
+        }
+    }
+}
 
-pub const FOLD_AT: u8 = 8;
+// The operations, each with what the number a says of it.
+#[derive(Clone, Copy)]
+pub enum Operation {
+    Judge,
+    Mend,
+    LowerLifetime,
+    SetAddress { side: u32 },
+    SetStretch { place: usize },
+    JudgeCapture { places: usize },
+    Chain,
+    Sum,
+    FoldAt { odd: bool },
+    Field,
+    Update { field: Field, old: Fold, new: Fold },
+    Join,
+    Printed,
+    ExchangePrefix { side: u32, expected: usize },
+    JudgeFragments,
+    Build(Ask),
+}
 
-pub const FIELD: u8 = 9;
+// What a packet is to be built with, and the sizes of its addresses, which stand in payload two.
+#[derive(Clone, Copy)]
+pub struct Ask {
+    pub source_port: u16,
+    pub destination_port: u16,
+    pub lifetime: u8,
+    pub source_size: u16,
+    pub destination_size: u16,
+}
 
-pub const UPDATE: u8 = 10;
+impl Operation {
+    pub fn new(code: u8, a: u64) -> Result<Self, Error> {
+        let operation = match code {
+            0 => Operation::Judge,
+            1 => Operation::Mend,
+            2 => Operation::LowerLifetime,
+            3 => Operation::SetAddress { side: low_half(a) },
+            4 => Operation::SetStretch { place: a as usize },
+            5 if a <= LARGEST => Operation::JudgeCapture { places: a as usize },
+            6 => Operation::Chain,
+            7 => Operation::Sum,
+            8 => Operation::FoldAt { odd: a % 2 == 1 },
+            9 => Operation::Field,
+            10 => Operation::Update {
+                field: Field(word_from(a, 32)),
+                old: Fold(word_from(a, 16)),
+                new: Fold(word_from(a, 0)),
+            },
+            11 => Operation::Join,
+            12 => Operation::Printed,
+            13 => Operation::ExchangePrefix {
+                side: low_half(a),
+                expected: (a >> 32) as usize,
+            },
+            14 => Operation::JudgeFragments,
+            15 => Operation::Build(Ask {
+                source_port: word_from(a, 48),
+                destination_port: word_from(a, 32),
+                lifetime: (a >> 24 & 0xff) as u8,
+                source_size: (a >> 12 & 0xfff) as u16,
+                destination_size: (a & 0xfff) as u16,
+            }),
+            _ => return Err(Error::Malformed),
+        };
+        Ok(operation)
+    }
 
-pub const JOIN: u8 = 11;
+    // Whether payload two may have so many bytes.
+    pub fn takes(self, two: u64) -> bool {
+        match self {
+            Operation::Chain => two % NUMBER == 0,
+            Operation::Join => two == 2 * SUM,
+            Operation::ExchangePrefix { expected, .. } => expected as u64 <= two,
+            Operation::JudgeFragments => two % RECORD == 0,
+            Operation::Build(ask) => {
+                u64::from(ask.source_size) + u64::from(ask.destination_size) <= two
+            }
+            _ => true,
+        }
+    }
+}
 
-pub const PRINTED: u8 = 12;
+fn low_half(a: u64) -> u32 {
+    (a & 0xffff_ffff) as u32
+}
 
-pub const PREFIX: u8 = 13;
-
-pub const FRAGMENTS: u8 = 14;
-
-pub const BUILD: u8 = 15;
+// The 16 bits of a number from a place on.
+fn word_from(a: u64, place: u32) -> u16
+    requires { place < 64 }
+{
+    (a >> place & 0xffff) as u16
+}

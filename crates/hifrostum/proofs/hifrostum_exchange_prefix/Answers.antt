@@ -5,4 +5,4 @@ use Rattle.hifrostum.specs.Answers.{numbered}
 use Rattle.hifrostum.proofs.hifrostum_exchange_prefix.Goals as goal
 
 pub returns : goal.returns
-returns c = ap (λ (n : ℕ). (n, c.exchange_prefix.new.packet)) c.number.ensures ∙ ap numbered c.exchange_prefix.ensures
+returns c = ap (λ (n : ℕ). (n, c.exchange_prefix.new.packet)) c.from.ensures ∙ ap numbered c.exchange_prefix.ensures

@@ -1,10 +1,9 @@
--- The verdict's number, and the parts of the sum beside it.
-use mathlib.Core.Path.{◌∙◌, ap}
-use Prim.Native.Nat.{ℕ}
-use Rattle.hifrostum.specs.Answers.{summed}
+-- The joined sum, or the left one.
+use Rattle.std.proofs.Common.{sym, ◌∙◌}
 use Rattle.hifrostum.proofs.hifrostum_join.Goals as goal
 
-pub returns : goal.returns
-returns c =
-    let s = c.join-joined in
-    ap (λ (n : ℕ). (n, (s.result.sum.fold.0, s.result.sum.length))) c.number.ensures ∙ ap summed s.ensures
+pub returns-in-Ok : goal.returns-in-Ok
+returns-in-Ok c = let h = c.hand_back.ensures in rw (sym c.join.ensures ∙ c.in-Ok.is, h.0, h.1, h.2)
+
+pub returns-in-Err : goal.returns-in-Err
+returns-in-Err c = let h = c.hand_back-in-Err.ensures in rw (sym c.join.ensures ∙ c.in-Err.is, h.0, h.1, h.2)

@@ -5,4 +5,4 @@ use Rattle.hifrostum.specs.Answers.{numbered}
 use Rattle.hifrostum.proofs.hifrostum_mend.Goals as goal
 
 pub returns : goal.returns
-returns c = ap (λ (n : ℕ). (n, c.mend.new.packet)) c.number.ensures ∙ ap numbered c.mend.ensures
+returns c = ap (λ (n : ℕ). (n, c.mend.new.packet)) c.from.ensures ∙ ap numbered c.mend.ensures

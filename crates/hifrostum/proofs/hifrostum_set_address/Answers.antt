@@ -5,4 +5,4 @@ use Rattle.hifrostum.specs.Answers.{numbered}
 use Rattle.hifrostum.proofs.hifrostum_set_address.Goals as goal
 
 pub returns : goal.returns
-returns c = ap (λ (n : ℕ). (n, c.set_address.new.packet)) c.number.ensures ∙ ap numbered c.set_address.ensures
+returns c = ap (λ (n : ℕ). (n, c.set_address.new.packet)) c.from.ensures ∙ ap numbered c.set_address.ensures
