@@ -35,13 +35,13 @@ function read_code(text, n, i, word) {
     for (i = 1; i <= n; i++) note("code", word[i])
 }
 
-# A contract's facts stand in the braces of 'requires { .. }', 'ensures name { .. }' or 'ghost name: { .. }', perhaps over
-# several lines, or behind 'ghost name =', on one line.
+# A contract's facts stand in the braces of 'requires { .. }', 'ensures name { .. }' or 'ghost name: { .. } by { .. }', perhaps
+# over several lines, or behind 'ghost name =', on one line.
 function read_facts(text, fact) {
     if (!braces && match(text, /^[ \t]*ghost +[A-Za-z0-9_]+ *= *[^{ ]/)) read_terms(substr(text, RLENGTH))
     while (text != "") {
         if (!braces) {
-            if (!match(text, /(^|[^A-Za-z0-9_])((requires|ensures)[*]?( +[A-Za-z0-9_]+)?|ghost +[A-Za-z0-9_]+ *[:=]) *\{/)) return
+            if (!match(text, /(^|[^A-Za-z0-9_])((requires|ensures)[*]?( +[A-Za-z0-9_]+)?|ghost +[A-Za-z0-9_]+ *[:=]|by) *\{/)) return
             text = substr(text, RSTART + RLENGTH)
             braces = 1
         }
@@ -92,6 +92,20 @@ function read_use(text, kind, path, n, i, entry) {
         if (kind == "code") sub(/^.*::/, "", text)
         else if (text !~ / as /) sub(/^.*\./, "", text)
         import(text, path, "", kind)
+    }
+}
+
+# An attribute names lemmas and definitions by their paths, as 'using(crate::proofs::Places::first)'.
+function read_attribute(text, crate, path, name) {
+    crate = substr(file, length(root) + 2)
+    sub(/^crates\//, "", crate); sub(/\/.*/, "", crate)
+    while (match(text, /crate(::[A-Za-z0-9_]+)+/)) {
+        path = name = substr(text, RSTART, RLENGTH)
+        text = substr(text, RSTART + RLENGTH)
+        sub(/^.*::/, "", name); sub(/::[A-Za-z0-9_]+$/, "", path)
+        gsub(/::/, ".", path); sub(/^crate/, "Rattle." crate, path)
+        import(name, path, name, "term")
+        note("term", name)
     }
 }
 
@@ -177,6 +191,7 @@ pending != "" || line ~ /^[ \t]*(ghost )?use / {
     next
 }
 code && line !~ /^[ \t]*pub use / {
+    if (line ~ /#!?\[tactic\(/) read_attribute(line)
     read_code(line)
     read_facts(line)
 }

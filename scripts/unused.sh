@@ -67,6 +67,9 @@ module _ (xs : List) where
 shared : List → List
 shared xs = xs
 
+pub by_attribute : List → List
+by_attribute xs = xs
+
 pub by_module : List → Rule
 by_module xs = xs
 END
@@ -97,9 +100,10 @@ use b::Field;
 ghost use Kit.Path.{◌≡◌};
 ghost use Kit.Nat.{◌<◌};
 ghost use Kit.Bool.{true};
-ghost use Kit.Limits.{limit};
+ghost use Kit.Limits.{limit, alone};
 ghost use Rattle.a.specs.Sums.{total, Pair};
 
+#[tactic(auto, using(crate::proofs::Laws::by_attribute))]
 pub fn do_it(f: Field, g: &Field) -> Pair
     requires small { g.now < 8 }
     ensures { record { left = true; right = result.right } ≡
@@ -110,7 +114,7 @@ pub fn do_it(f: Field, g: &Field) -> Pair
 
 struct Held {
     of: u8,
-    ghost fits: { of ≡ limit },
+    ghost fits: { of ≡ limit } by { alone of },
 }
 END
     echo 'use b::Spare;' >"$1/crates/a/out/lib.rt"
