@@ -55,6 +55,18 @@ pub record Sized (p : List ℕ) (a : ℕ) (expected new : List ℕ) (w x : ℕ) 
   pub address : w ≡ eight_at (part p a (a + 8 - a)) 0
   pub number : x ≡ six_of expected
 
+pub sized :
+    {p : List ℕ} {a : ℕ} {expected new : List ℕ} {w x : ℕ} →
+    Bytes p →
+    Bytes expected →
+    a + 16 ≤ length p →
+    length expected ≡ 6 →
+    length new ≡ 6 →
+    w ≡ eight_at (part p a (a + 8 - a)) 0 →
+    x ≡ six_of expected →
+    Sized p a expected new w x
+sized b e f o s d n = record { bytes = b; these = e; fits = f; old = o; six = s; address = d; number = n }
+
 module _ {p : List ℕ} {a : ℕ} {expected new : List ℕ} {w x : ℕ} (k : Sized p a expected new w x) where
   word : w ≡ eight_at (part p a 8) 0
   word = let n : a + 8 - a ≡ 8 = omega arith in rw n at k.address
