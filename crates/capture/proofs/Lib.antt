@@ -4,4 +4,5 @@ pub mod Heads
 pub mod Laid
 pub mod Places
 pub mod Passes
+pub mod Answers
 pub mod Exact

@@ -1,8 +1,8 @@
 -- What the records of a capture are: read from the front, and, the other way round, laid out.
 use Rattle.std.specs.Prelude.{ℕ, zero, suc, ◌+◌, ◌/◌, ◌%◌, ◌≤◌, List, [], ◌∷◌, ◌++◌, Bool, true, false, not, ◌&&◌, ◌||◌, length, drop, ltb, eqb, if◌then◌else◌, Option, Some, None, Result, Ok, Err}
-use Rattle.std.specs.declared.ops.Range.{Range}
 use Rattle.wire.specs.Bytes.{byte_at, word_at, part}
 use Rattle.capture.specs.declared.Damaged.{Damaged}
+use Rattle.capture.specs.declared.Found.{Found}
 
 -- ---- a capture's head: mark and version
 abbrev pub capture_head : ℕ
@@ -95,12 +95,12 @@ abbrev pub records_in : List ℕ → Records
 records_in c = read_of (drop capture_head c)
 
 -- where the packet of the record at a place of a capture starts and ends
-abbrev pub placed : ℕ → Head → Result (Option (Range ℕ)) Damaged
+abbrev pub placed : ℕ → Head → Result (Option Found) Damaged
 placed at (Ok None) = Ok None
 placed at (Err d) = Err d
 placed at (Ok (Some n)) = Ok (Some (record { start = at + record_head; end = at + record_head + n }))
 
-unfoldable pub record_at : List ℕ → ℕ → Result (Option (Range ℕ)) Damaged
+unfoldable pub record_at : List ℕ → ℕ → Result (Option Found) Damaged
 record_at c at = placed at (front_of (drop at c))
 
 -- ---- the records, laid out

@@ -12,7 +12,6 @@ ghost use Rattle.capture.specs.Records.{other_mark, other_edition, head_of, reco
 ghost use Rattle.capture.specs.Judged.{verdicts_of, judged_of, body_of, counted_of, shown, listed};
 
 use judge::number;
-use std::ops::Range;
 use verdicts::Verdict;
 use wire::word;
 
@@ -39,6 +38,13 @@ impl From<Damaged> for Verdict {
     fn from(_: Damaged) -> Verdict {
         Verdict::Record
     }
+}
+
+// Where the packet of a whole record starts and ends.
+#[derive(Clone, Copy)]
+pub struct Found {
+    pub start: usize,
+    pub end: usize,
 }
 
 // The packets of the records that are left, in order, and behind them the damage, if there is any.
@@ -136,7 +142,7 @@ pub fn head_at(bytes: &[u8], at: usize) -> Result<Option<usize>, Damaged>
 
 // Where the packet of the record at a place of a capture stands, or `None` at the capture's end.
 #[tactic(auto, using(crate::proofs::Reading::length_here, crate::proofs::Reading::head_there, crate::proofs::Reading::front_whole), unfolding(crate::specs::Records::record_at))]
-pub fn record_at(capture: &[u8], at: usize) -> Result<Option<Range<usize>>, Damaged>
+pub fn record_at(capture: &[u8], at: usize) -> Result<Option<Found>, Damaged>
     ensures { result ≡ record_at capture.now at }
 {
     let Some(size) = head_at(capture, at)? else {
@@ -146,7 +152,8 @@ pub fn record_at(capture: &[u8], at: usize) -> Result<Option<Range<usize>>, Dama
     if capture.len() - start < size {
         return Err(Damaged);
     }
-    Ok(Some(start..start + size))
+    let end = start + size;
+    Ok(Some(Found { start, end }))
 }
 
 // The first pass: how many records there are.

@@ -80,11 +80,15 @@ module _ {end : ℕ} {xs : List ℕ} {room i : ℕ} (l : Tested end xs room i) w
     tested-long k =
         rw (lt-ltb longest (sizes xs) (omega (arith, l.rest-room, sizes-next xs i h))) (sym (and-false (fits end xs)))
 
-  pub tested-end : i % 2 ≡ 0 → length xs ≤ i + 1 → eqb (length xs % 2) 0 ≡ taken end xs
+  pub tested-end : length xs ≤ i + 1 → eqb i (length xs) ≡ taken end xs
   unfolding taken
-  tested-end p h =
+  tested-end h =
       rw (le-ltb longest (sizes xs) (omega (arith, l.rest-room, sizes-few (drop i xs) (omega (arith, length-drop i xs)))))
-      (even ∙ sym (fits-end end xs i l.within h) ∙ l.rest-fits ∙ sym (and_yes (fits end xs)))
+      (sym (fits-end end xs i l.within h) ∙ l.rest-fits ∙ sym (and_yes (fits end xs)))
+
+  -- the same where i is even: then the list's length says it
+  pub tested-even : i % 2 ≡ 0 → length xs ≤ i + 1 → eqb (length xs % 2) 0 ≡ taken end xs
+  tested-even p h = even ∙ tested-end h
     where
       w : i ≤ length xs
       w = l.within

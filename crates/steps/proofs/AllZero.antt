@@ -36,19 +36,19 @@ zero-without p a f e h k l =
 -- ---- the message around a stretch
 module _ (p : List ℕ) (k : Facts p) (at : ℕ) (new : List ℕ) (low : body_of p ≤ at) (high : at + length new ≤ end_of p) where
   -- what stands before the field, between the field and the stretch, and behind the stretch
-  abbrev first_part : Bool
+  abbrev pub first_part : Bool
   first_part = all_zero (part p (start_of p) (field_at p - start_of p))
 
-  abbrev middle-part : Bool
+  abbrev pub middle-part : Bool
   middle-part = all_zero (part p (field_at p + 2) (at - (field_at p + 2)))
 
-  abbrev last-part : Bool
+  abbrev pub last-part : Bool
   last-part = all_zero (part p (at + length new) (end_of p - (at + length new)))
 
-  abbrev old-part : Bool
+  abbrev pub old-part : Bool
   old-part = all_zero (part p at (at + length new - at))
 
-  blank-before : blank p p ≡ (first_part && (middle-part && (old-part && last-part)))
+  pub blank-before : blank p p ≡ (first_part && (middle-part && (old-part && last-part)))
   unfolding blank
   blank-before =
       let f = field_at p in
@@ -59,7 +59,7 @@ module _ (p : List ℕ) (k : Facts p) (at : ℕ) (new : List ℕ) (low : body_of
       ∙ ap (λ (b : Bool). middle-part && b)
       (ap all_zero (part_cut p at n (end_of p) (omega arith) (omega arith)) ∙ zero-append (part p at (n - at)) (part p n (end_of p - n))))
 
-  blank-after : blank p (put p at new) ≡ (first_part && (middle-part && (all_zero new && last-part)))
+  pub blank-after : blank p (put p at new) ≡ (first_part && (middle-part && (all_zero new && last-part)))
   unfolding blank
   blank-after =
       let f = field_at p in
@@ -77,7 +77,7 @@ module _ (p : List ℕ) (k : Facts p) (at : ℕ) (new : List ℕ) (low : body_of
       ∙ ap₂ ◌&&◌ (ap all_zero they) (ap all_zero (part-above w n (end_of p - n) (omega arith) (omega arith)))))
 
   -- both at once: all else is zeros, and so are the old bytes or the new ones
-  blank-either : (blank p p || blank p (put p at new)) ≡ (first_part && (middle-part && (last-part && (old-part || all_zero new))))
+  pub blank-either : (blank p p || blank p (put p at new)) ≡ (first_part && (middle-part && (last-part && (old-part || all_zero new))))
   blank-either =
       rw (blank-before, blank-after)
       (both first_part middle-part last-part old-part (all_zero new))
@@ -90,7 +90,7 @@ module _ (p : List ℕ) (k : Facts p) (at : ℕ) (new : List ℕ) (low : body_of
       both true true c false true = by_cases c (λ t. simp t) (λ t. simp t)
       both true true c false false = by_cases c (λ t. simp t) (λ t. simp t)
 
-  blanks-made : protocol_of p ≡ 1 → (b : Bool) → b ≡ (first_part && (middle-part && (last-part && (old-part || all_zero new))))
+  pub blanks-made : protocol_of p ≡ 1 → (b : Bool) → b ≡ (first_part && (middle-part && (last-part && (old-part || all_zero new))))
       → b ≡ (eqb (protocol_of p) 1 && (blank p p || blank p (put p at new)))
   blanks-made e b h = h ∙ sym (rw (eq-eqb (protocol_of p) 1 e) blank-either)
 

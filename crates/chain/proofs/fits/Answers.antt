@@ -1,6 +1,6 @@
 -- `chain::fits` meets its contract. The loop keeps `Tested`: what is left fits where the list does, and room is left for it.
 use Rattle.std.proofs.Common.{◌≡◌, ◌+◌, ◌-◌, ◌*◌, ◌/◌, [], length, get_or, arith}
-use Rattle.chain.proofs.Lists.{piece-at, tested-start, tested-piece, tested-past, tested-long, tested-end}
+use Rattle.chain.proofs.Lists.{piece-at, tested-start, tested-piece, tested-past, tested-long, tested-even}
 use Rattle.chain.proofs.fits.Goals as goal
 use Rattle.chain.proofs.fits.Goals.{then-end-piece-via-then-end-piece, then-end-piece-via-else-end-piece+then-room-size}
 
@@ -34,4 +34,4 @@ loop-piece-preserved c =
 pub returns : goal.returns
 returns c =
     let k : length c.as_chunks.result.0.now ≡ length c.args.pieces.now / 2 = c.as_chunks.ensures.front_len in
-    tested-end c.loop-piece.invariant (omega arith) (omega arith)
+    tested-even c.loop-piece.invariant (omega arith) (omega arith)
