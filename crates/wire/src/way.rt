@@ -168,12 +168,19 @@ fn unfinished(packet: &[u8], next: u8, at: usize) -> bool
 fn listed(family: Family, next: u8, start: usize, declared: usize) -> Result<Carried, Verdict>
     ensures { result ≡ listed family declared (reached next start) }
 {
-    let protocol = match (family, next) {
-        (_, UDP) => Protocol::Udp,
-        (_, TCP) => Protocol::Tcp,
-        (Family::Four, ICMP) => Protocol::Icmp,
-        (Family::Six, ICMP_6) => Protocol::Icmp6,
-        _ => return Err(Verdict::Uncovered),
+    let protocol = match family {
+        Family::Four => match next {
+            UDP => Protocol::Udp,
+            TCP => Protocol::Tcp,
+            ICMP => Protocol::Icmp,
+            _ => return Err(Verdict::Uncovered),
+        },
+        Family::Six => match next {
+            UDP => Protocol::Udp,
+            TCP => Protocol::Tcp,
+            ICMP_6 => Protocol::Icmp6,
+            _ => return Err(Verdict::Uncovered),
+        },
     };
     Ok(Carried {
         family,
