@@ -150,8 +150,18 @@ fn ending(b: &[u8], n: usize, t: u64) -> u64
     carry(t, le8(b, n - 7) >> (8 * (7 - n % 8)))
 }
 
-// The total of a few bytes, added to a seed: two at a turn.
+// The total of fewer than eight bytes, added to a seed: four at once where there are so many, and then two at a turn.
 fn short(b: &[u8], seed: u64) -> u64
+    ensures { fold result ≡ fold (seed + weigh true b.now) }
+{
+    if b.len() < 4 {
+        return few(b, seed);
+    }
+    few(&b[4..], carry(seed, u64::from(le4(b, 0))))
+}
+
+// The total of a few bytes, added to a seed: two at a turn.
+fn few(b: &[u8], seed: u64) -> u64
     ensures { fold result ≡ fold (seed + weigh true b.now) }
 {
     let mut t = seed;
