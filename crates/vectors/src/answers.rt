@@ -1,13 +1,13 @@
 // The answer to each operation.
+use crate::buffers::LARGEST;
 use crate::cases::front;
 use crate::error::Error;
 use crate::operation::{Ask, Operation};
 use crate::shown::{Digest, Number, Outcome, Sum};
 use build::{Udp, build_udp};
 use capture::judge_capture;
-use fragments::Fragment;
+use fragments::{Fragment, Gathered};
 use lines::State;
-use std::alloc::{AllocError, Global};
 use std::io;
 use sums::{Fold, Partial};
 use verdicts::Verdict;
@@ -15,9 +15,12 @@ use verdicts::Verdict;
 // What each place of a verdict buffer holds before the call.
 const FILL: u8 = 0xA5;
 
+// The size of a 32-bit number.
+const NUMBER: usize = 4;
+
 // Calls the operation on the buffer and payload two, and prints its answer.
 pub fn answer(
-    rt: &(impl Print + AllocGlobal),
+    rt: &impl Print,
     operation: Operation,
     buffer: &mut [u8],
     two: &[u8],
@@ -32,8 +35,8 @@ pub fn answer(
         Operation::SetStretch { place } => {
             edited(rt, edit::set_stretch(buffer, place, two), buffer)?
         }
-        Operation::JudgeCapture { places } => judged(rt, buffer, places)?,
-        Operation::Chain => println!(rt; "{}", chained(buffer, &numbers(rt.alloc(), two)?))?,
+        Operation::JudgeCapture { places } => captured(rt, buffer, places)?,
+        Operation::Chain => println!(rt; "{}", chained(buffer, two))?,
         Operation::Sum => println!(rt; "{}", Sum(folds::sum(buffer)))?,
         Operation::FoldAt { odd } => println!(rt; "{}", folds::fold_at(buffer, odd).0)?,
         Operation::Field => println!(rt; "{}", folds::field_of(folds::sum(buffer).fold).0)?,
@@ -45,9 +48,7 @@ pub fn answer(
         Operation::ExchangePrefix { side, expected } => {
             edited(rt, exchanged(side, expected, two, buffer)?, buffer)?
         }
-        Operation::JudgeFragments => {
-            println!(rt; "{}", Number(gathered(rt.alloc(), buffer, two)?))?
-        }
+        Operation::JudgeFragments => { println!(rt; "{}", Number(gathered(buffer, two)))? }
         Operation::Build(ask) => {
             let built = built(ask, two, buffer)?;
             println!(rt; "{built} {}", Digest::of(buffer))?
@@ -62,47 +63,52 @@ fn edited(rt: &impl Print, verdict: Verdict, buffer: &[u8]) -> io::Result<()> {
 }
 
 // A capture's verdicts, into so many places.
-fn judged(rt: &(impl Print + AllocGlobal), capture: &[u8], places: usize) -> io::Result<()> {
-    let mut verdicts = vec![in rt.alloc(); FILL; places]?;
-    let judged = Outcome::of(judge_capture(capture, &mut verdicts), 0);
-    println!(rt; "{judged} {}", Digest::of(&verdicts))
+fn captured(rt: &impl Print, capture: &[u8], places: usize) -> io::Result<()> {
+    judged(rt, capture, places, &mut [FILL; LARGEST])
 }
 
-// Beside a refusal stands the sum of nothing.
-fn chained(buffer: &[u8], list: &[u32]) -> Outcome<Sum> {
+// The same in a room that may have more.
+fn judged(rt: &impl Print, capture: &[u8], places: usize, room: &mut [u8]) -> io::Result<()> {
+    let end = places.min(room.len());
+    let verdicts = &mut room[..end];
+    let judged = Outcome::of(judge_capture(capture, verdicts), 0);
+    println!(rt; "{judged} {}", Digest::of(verdicts))
+}
+
+// A chain over the list of 32-bit numbers that payload two is. Beside a refusal stands the sum of nothing.
+fn chained(buffer: &[u8], two: &[u8]) -> Outcome<Sum> {
+    let mut list = [0; LARGEST / NUMBER];
+    let numbers = numbers(two, &mut list);
     let nothing = Partial {
         fold: Fold(0),
         length: 0,
     };
-    Outcome::of(chain::chain(buffer, list).map(Sum), Sum(nothing))
+    Outcome::of(chain::chain(buffer, numbers).map(Sum), Sum(nothing))
 }
 
-// The list of 32-bit numbers that bytes are.
-fn numbers(alloc: Global, bytes: &[u8]) -> Result<Vec<u32>, AllocError> {
-    let (numbers, _) = bytes.as_chunks();
-    numbers
-        .iter()
-        .map(|number| u32::from_be_bytes(*number))
-        .collect(alloc)
+// Turns bytes into 32-bit numbers at a list's start, and lends these.
+fn numbers<'a>(bytes: &[u8], list: &'a mut [u32]) -> &'a [u32] {
+    let (numbers, _) = bytes.as_chunks::<NUMBER>();
+    for (place, number) in list.iter_mut().zip(numbers) {
+        *place = u32::from_be_bytes(*number);
+    }
+    let count = numbers.len().min(list.len());
+    &list[..count]
 }
 
-// The verdict on the fragments that payload two lists.
-fn gathered(alloc: Global, buffer: &[u8], two: &[u8]) -> Result<Verdict, AllocError> {
-    let list = listed(alloc, two)?;
-    Ok(fragments::judge_fragments(buffer, &list))
-}
-
-// The list of fragments that bytes are: of each the offset and the length, 64 bits both.
-fn listed(alloc: Global, bytes: &[u8]) -> Result<Vec<Fragment>, AllocError> {
-    let (numbers, _) = bytes.as_chunks();
+// The verdict on the fragments that payload two lists, by the calls that `fragments::judge_fragments` makes: of each the
+// offset and the length, 64 bits both.
+fn gathered(buffer: &[u8], two: &[u8]) -> Verdict {
+    let (numbers, _) = two.as_chunks();
     let (records, _) = numbers.as_chunks::<2>();
-    records
-        .iter()
-        .map(|[offset, length]| Fragment {
+    let mut gathered = Gathered::new(buffer);
+    for [offset, length] in records {
+        gathered.add(Fragment {
             offset: usize::from_be_bytes(*offset),
             length: usize::from_be_bytes(*length),
-        })
-        .collect(alloc)
+        });
+    }
+    gathered.verdict()
 }
 
 // Payload two is the expected prefix and then the new one.

@@ -1,5 +1,4 @@
 // Why the answers end before the input does.
-use std::alloc::AllocError;
 use std::io;
 
 #[derive(Debug, Drop)]
@@ -11,11 +10,5 @@ pub enum Error {
 impl From<io::Error> for Error {
     fn from(error: io::Error) -> Error {
         Error::Io(error)
-    }
-}
-
-impl From<AllocError> for Error {
-    fn from(error: AllocError) -> Error {
-        Error::Io(io::Error::from(error))
     }
 }

@@ -13,14 +13,14 @@ mod operation;
 mod shown;
 
 use answers::answer;
-use buffers::Buffers;
-use cases::Cases;
+use buffers::{Buffers, Bytes};
+use cases::Case;
 use error::Error;
 use std::io;
 use std::io::Read;
 
 fn main(rt: HostRuntime) -> io::Result<()> {
-    match answer_all(&rt, rt.stdin()) {
+    match answer_all(&rt, &mut rt.stdin()) {
         Err(Error::Malformed) => println!(rt; "bad case"),
         Err(Error::Io(error)) => Err(error),
         Ok(()) => Ok(()),
@@ -28,15 +28,21 @@ fn main(rt: HostRuntime) -> io::Result<()> {
 }
 
 // Reads case after case, and prints the answer to each. A malformed case ends the answers.
-fn answer_all(rt: &(impl Print + AllocGlobal), input: impl Read + Drop) -> Result<(), Error> {
-    let mut cases = Cases::new(rt.alloc(), input);
-    let mut buffers = Buffers::new(rt.alloc());
+fn answer_all(rt: &impl Print, input: &mut impl Read) -> Result<(), Error> {
+    let mut buffers = Buffers::new();
+    let mut two = Bytes::new();
     for _ in 0..u64::MAX {
-        let Some(case) = cases.next()? else {
+        let Some(case) = Case::next(input)? else {
             break;
         };
-        let buffer = buffers.lay(case.source, case.one)?;
-        answer(rt, case.operation, buffer, &case.two)?;
+        buffers.lay(case.source, input, case.one, &mut two)?;
+        two.read(input, case.two)?;
+        answer(
+            rt,
+            case.operation,
+            buffers.present.as_mut_slice(),
+            two.as_slice(),
+        )?;
     }
     Ok(())
 }

@@ -1,7 +1,7 @@
 // What a case asks for.
 ghost use Rattle.std.specs.Prelude.{◌<◌};
 
-use crate::cases::LARGEST;
+use crate::buffers::LARGEST;
 use crate::error::Error;
 use sums::{Field, Fold};
 
@@ -73,7 +73,7 @@ impl Operation {
             2 => Operation::LowerLifetime,
             3 => Operation::SetAddress { side: low_half(a) },
             4 => Operation::SetStretch { place: a as usize },
-            5 if a <= LARGEST => Operation::JudgeCapture { places: a as usize },
+            5 if a <= LARGEST as u64 => Operation::JudgeCapture { places: a as usize },
             6 => Operation::Chain,
             7 => Operation::Sum,
             8 => Operation::FoldAt { odd: a % 2 == 1 },

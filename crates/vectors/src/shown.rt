@@ -1,4 +1,6 @@
 // What answers are made of, as it is printed.
+ghost use Rattle.std.specs.Prelude.{◌<◌};
+
 use std::fmt;
 use sums::Partial;
 use verdicts::Verdict;
@@ -53,7 +55,9 @@ impl Digest {
     }
 }
 
-fn step(h: u32, b: u8) -> u32 {
+fn step(h: u32, b: u8) -> u32
+    ensures { result < 4294967291 }
+{
     ((u64::from(h) * 257 + u64::from(b) + 1) % 4294967291) as u32
 }
 
